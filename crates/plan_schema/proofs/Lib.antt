@@ -1,0 +1,5 @@
+pub mod Names
+pub mod Days
+pub mod Dates
+pub mod Orders
+pub mod Writes

@@ -1,0 +1,25 @@
+//! The records of the planning database: names, days, keys, records, changes, refusals and the lists of them.
+#![tactic(auto)]
+
+mod change;
+mod contents;
+mod day;
+mod fault;
+mod key;
+mod name;
+mod outcome;
+pub mod outside;
+mod refusal;
+mod series;
+mod steps;
+
+pub use change::{CellName, Change};
+pub use contents::Contents;
+pub use day::Day;
+pub use fault::{FieldFault, Rule};
+pub use key::{Key, Lot, Qty, Record, Span};
+pub use name::Name;
+pub use outcome::{Known, NetFault, Outcome};
+pub use refusal::{Refusal, Room};
+pub use series::{Quantities, Rows, Series};
+pub use steps::Steps;

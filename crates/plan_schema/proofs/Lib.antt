@@ -3,3 +3,4 @@ pub mod Days
 pub mod Dates
 pub mod Orders
 pub mod Writes
+pub mod DayLaws

@@ -1,0 +1,6 @@
+pub mod Numbers
+pub mod Spellings
+pub mod Fields
+pub mod Lots
+pub mod Rows
+pub mod KeyForms

@@ -1,0 +1,10 @@
+pub mod Number
+pub mod Texts
+pub mod Row
+pub mod Spelling
+pub use Rattle.plan_schema.specs.Name
+pub use Rattle.plan_schema.specs.Day
+pub use Rattle.plan_schema.specs.Key
+pub use Rattle.plan_schema.specs.Sound
+pub use Rattle.plan_schema.specs.Outside
+pub mod Laws

@@ -1,7 +1,7 @@
 -- Dates `YYYY-MM-DD` from 2000-01-01 to 2099-12-31. Days are numbered from 0, which is 2000-01-01, to 36,524.
 use Rattle.std.specs.Prelude.{ℕ, zero, suc, ◌+◌, ◌-◌, ◌*◌, ◌≡◌, ◌≤◌, ◌/◌, ◌%◌, Bool, ◌&&◌, ◌==◌, nat_lt, nat_le, List, [], ◌∷◌, length, slice_index, Result, Ok, Err, if◌then◌else◌, pos, ◌-ℤ◌, unsigned_abs}
 use Rattle.std.specs.Char.{is_ascii_digit}
-use Rattle.jiff_core.specs.Calendar.{days_in_month, days_from_civil, weekday_number}
+use Rattle.jiff_core.specs.Calendar.{days_in_month, days_from_civil}
 use Rattle.jiff_core.specs.declared.civil.date.Date.{Date as Plain}
 use Rattle.plan_schema.specs.declared.fault.Rule.{Rule}
 use Rattle.plan_schema.specs.declared.fault.Rule.TheVariants.{Shape, Date}
@@ -38,9 +38,9 @@ day_in y m d = if is_calendar_day y m d then Ok (day_number y m d) else Err Date
 unfoldable pub day_of : List ℕ → Result ℕ Rule
 day_of text = if has_date_form text then day_in (100 * digits_at text 0 + digits_at text 2) (digits_at text 5) (digits_at text 8) else Err Shape
 
--- the weekday, from 0 for Monday
-unfoldable pub weekday_of : ℕ → ℕ
-weekday_of n = weekday_number (pos (n + 10957))
+-- the weekday, from 0 for Monday: 2000-01-01 was a Saturday
+abbrev pub weekday_of : ℕ → ℕ
+weekday_of n = (n + 5) % 7
 
 pub record Civil : Type 0 where
   pub year : ℕ

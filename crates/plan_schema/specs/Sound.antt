@@ -10,6 +10,7 @@ use Rattle.plan_schema.specs.declared.key.Record.{Record}
 use Rattle.plan_schema.specs.declared.key.Record.TheVariants as records
 use Rattle.plan_schema.specs.declared.change.Change.{Change}
 use Rattle.plan_schema.specs.declared.change.Change.TheVariants as changes
+use Rattle.plan_schema.specs.declared.change.Entry.{Entry}
 use Rattle.plan_schema.specs.Name.{is_name}
 use Rattle.plan_schema.specs.Day.{is_day}
 use Rattle.plan_schema.specs.Key.{name_eq, key_eq}
@@ -107,3 +108,9 @@ change_is_within _ = true
 -- a sound change: one that the grammar of commands can spell
 abbrev pub is_sound_change : Change → Bool
 is_sound_change change = change_has_names change && change_is_within change
+
+-- a sound entry: of a session from 1 to 16 and a line from 1 to 1,000,000, with a sound change
+abbrev pub is_sound_entry : Entry → Bool
+is_sound_entry entry =
+    nat_le 1 entry.session && nat_le entry.session 16 && nat_le 1 entry.line && nat_le entry.line 1_000_000
+    && is_name entry.user && is_sound_change entry.change

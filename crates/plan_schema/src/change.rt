@@ -51,6 +51,17 @@ pub enum Change {
     },
 }
 
+/// An accepted change as the journal keeps it: who made it, and in which line of which session.
+#[derive(Drop)]
+pub struct Entry {
+    /// The session's number, from 1.
+    pub session: u64,
+    /// The number of the request's first line in the session's input, from 1.
+    pub line: u64,
+    pub user: Name,
+    pub change: Change,
+}
+
 /// A cell of records: the horizon's, a calendar's or a part's.
 #[derive(Clone, Copy, Debug, PartialEq, Eq, PartialOrd, Ord, Hash)]
 pub enum CellName {
@@ -127,5 +138,19 @@ impl Change {
                 child.holds();
             }
         }
+    }
+}
+
+impl Entry {
+    /// An equal entry.
+    pub fn copy(&self) -> Result<Entry, AllocError>
+        ensures { IfOk result (λ copy. copy ≡ self.now) }
+    {
+        Ok(Entry {
+            session: self.session,
+            line: self.line,
+            user: self.user,
+            change: self.change.copy()?,
+        })
     }
 }

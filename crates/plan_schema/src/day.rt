@@ -62,7 +62,6 @@ impl Day {
     }
 
     /// The days since the last Monday.
-    #[tactic(auto, unfolding(crate::specs::Day::weekday_of))]
     pub fn weekday(&self) -> u8
         ensures value { result ≡ spec.weekday_of self.now }
         ensures bound { result < 7 }

@@ -14,7 +14,7 @@ mod refusal;
 mod series;
 mod steps;
 
-pub use change::{CellName, Change};
+pub use change::{CellName, Change, Entry};
 pub use contents::Contents;
 pub use day::Day;
 pub use fault::{FieldFault, Rule};

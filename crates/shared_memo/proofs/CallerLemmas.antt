@@ -1,11 +1,11 @@
 -- What a caller's proof cites of the words in `specs/Pairs.antt`.
-use Rattle.std.proofs.Common.{◌≡◌, Bool, true, false, ◌⊎◌, List, [], ◌∷◌, filter, Contains, Some, ap, subst, inl, inr}
+use Rattle.std.proofs.Common.{◌≡◌, Bool, true, false, ◌⊎◌, List, ◌∷◌, filter, Contains, Some, refl, ap, subst, inl, inr}
 use Rattle.std.specs.Cmp.{IsEquivalence}
 use Rattle.std.specs.Map.{lookup}
 use Rattle.lru.specs.LruCache.{lru_cache}
 use Rattle.lru.proofs.CallerLemmas.{IsPut, Contains-promoted, Contains-put_entries, lookup-put_entries}
 use Rattle.lru.proofs.Splits.{Contains-head, Contains-tail, Contains-cons, Contains-nil}
-use Rattle.shared_memo.specs.Pairs.{Memo, in_front, with_pair, Keeps}
+use Rattle.shared_memo.specs.Pairs.{Memo, in_front, with_pair, Keeps, at_end, stays, goes}
 
 module _ {K V : Type 0} where
   -- a look-up adds no pair
@@ -23,15 +23,15 @@ module _ {K V : Type 0} where
   module _ (says : K → Bool → Type 0) where
     -- a pair that is left was there, and its key was kept
     pub Keeps-Contains : (old new : List (K × V)) (p : K × V) → Keeps says old new → Contains new p → Contains old p × says p.0 true
-    Keeps-Contains [] new p h c = absurd (Contains-nil p (rw h at c))
-    Keeps-Contains (q ∷ old) new p (inl a) c = elim (Contains-cons q a.1.0 p (rw a.1.1 at c)) [
-      | inl same ↦ (subst (Contains (q ∷ old)) same (Contains-head q old), subst (λ (x : K × V). says x.0 true) same a.0)
-      | inr rest ↦ let on = Keeps-Contains old a.1.0 p a.1.2 rest in (Contains-tail q old p on.0, on.1)
+    Keeps-Contains _ _ p at_end c = absurd (Contains-nil p c)
+    Keeps-Contains _ _ p (stays q old new said rest) c = elim (Contains-cons q new p c) [
+      | inl same ↦ (subst (Contains (q ∷ old)) same (Contains-head q old), subst (λ (x : K × V). says x.0 true) same said)
+      | inr later ↦ let on = Keeps-Contains old new p rest later in (Contains-tail q old p on.0, on.1)
     ]
-    Keeps-Contains (q ∷ old) new p (inr a) c = let on = Keeps-Contains old new p a.1 c in (Contains-tail q old p on.0, on.1)
+    Keeps-Contains _ _ p (goes q old new said rest) c = let on = Keeps-Contains old new p rest c in (Contains-tail q old p on.0, on.1)
 
     -- where each call answers as a function of the key does, what is left is what that function picks
-    pub Keeps-filter : (keep : K → Bool) (old new : List (K × V)) → ((k : K) (b : Bool) → says k b → b ≡ keep k) → Keeps says old new → new ≡ filter (λ p. keep p.0) old
-    Keeps-filter keep [] new same h = h
-    Keeps-filter keep (q ∷ old) new same (inl a) = rw (a.1.1, ← same q.0 true a.0) (ap (λ (t : List (K × V)). q ∷ t) (Keeps-filter keep old a.1.0 same a.1.2))
-    Keeps-filter keep (q ∷ old) new same (inr a) = rw (← same q.0 false a.0) (Keeps-filter keep old new same a.1)
+    pub Keeps-filter : (keep : K → Bool) (old new : List (K × V)) → Keeps says old new → ((k : K) (b : Bool) → says k b → b ≡ keep k) → new ≡ filter (λ p. keep p.0) old
+    Keeps-filter keep _ _ at_end same = refl
+    Keeps-filter keep _ _ (stays q old new said rest) same = rw (← same q.0 true said) (ap (λ (t : List (K × V)). q ∷ t) (Keeps-filter keep old new rest same))
+    Keeps-filter keep _ _ (goes q old new said rest) same = rw (← same q.0 false said) (Keeps-filter keep old new rest same)

@@ -1,5 +1,5 @@
 -- The pairs of a memo, and those of the cache under it, whose values show theirs through a function.
-use Rattle.std.proofs.Common.{◌≡◌, ◌∙◌, ℕ, ◌-◌, Bool, true, false, List, [], ◌∷◌, map, take, Option, Some, None, refl, ap, inl, inr, Bor, ◌++◌, zero, suc}
+use Rattle.std.proofs.Common.{◌≡◌, ◌∙◌, ℕ, ◌+◌, ◌-◌, add-one, Bool, true, false, List, [], ◌∷◌, map, take, Option, Some, None, refl, sym, ap, inl, inr, Bor, ◌++◌, zero, suc}
 use Rattle.std.specs.Prelude.{option_map, option_copied, IsSome}
 use Rattle.std.proofs.lemmas.Map.Made.{keys_of-map_values, lookup-map_values}
 use Rattle.std.proofs.lemmas.List.{length-map}
@@ -8,12 +8,16 @@ use Rattle.std.specs.List.{AllByRecursion, IsDistinct}
 use Rattle.std.specs.Map.{keys_of, lookup, lookup_entry, remove_entry}
 use Rattle.std.proofs.lemmas.Bool.{cases_Bool}
 use Rattle.lru.specs.LruCache.{LruCache, IsValid, promoted, put_entries}
-use Rattle.shared_memo.specs.Pairs.{memo, IsWithin, in_front, with_pair, Refuses, Keeps}
+use Rattle.shared_memo.specs.Pairs.{memo, IsWithin, in_front, with_pair, Refuses, at_last, passes, fails, Keeps, at_end, stays, goes}
 
 module _ {X Y : Type 0} (g : X → Y) where
-  pub copied-mapped : (r : Option (Bor X)) → option_map (λ a. g a.now) r ≡ option_map g (option_copied r)
+  copied-mapped : (r : Option (Bor X)) → option_map (λ a. g a.now) r ≡ option_map g (option_copied r)
   copied-mapped None = refl
   copied-mapped (Some a) = refl
+
+  -- what a look-up in the cache shows is what one in the memo finds
+  pub found-mapped : {K : Type 0} (test : K → Bool) (es : List (K × X)) (r : Option (Bor X)) → option_copied r ≡ lookup test es → option_map (λ a. g a.now) r ≡ lookup test (map (λ e. (e.0, g e.1)) es)
+  found-mapped test es r same = copied-mapped r ∙ ap (option_map g) same ∙ sym (lookup-map_values g test es)
 
   some-mapped : (o : Option X) → IsSome (option_map g o) → IsSome o
   some-mapped None h = h
@@ -34,15 +38,15 @@ module _ {K X Y : Type 0} (g : X → Y) where
   pub lookup_entry-mapped : (test : K → Bool) (es : List (K × X)) → lookup_entry test (mapped es) ≡ option_map (λ e. (e.0, g e.1)) (lookup_entry test es)
   lookup_entry-mapped test [] = refl
   lookup_entry-mapped test (e ∷ es) = elim (cases_Bool (test e.0)) [
-    | inl passes ↦ rw passes refl
-    | inr not ↦ rw not (lookup_entry-mapped test es)
+    | inl same ↦ rw same refl
+    | inr other ↦ rw other (lookup_entry-mapped test es)
   ]
 
   pub remove_entry-mapped : (test : K → Bool) (es : List (K × X)) → remove_entry test (mapped es) ≡ mapped (remove_entry test es)
   remove_entry-mapped test [] = refl
   remove_entry-mapped test (e ∷ es) = elim (cases_Bool (test e.0)) [
-    | inl passes ↦ rw passes refl
-    | inr not ↦ rw not (ap (λ (t : List (K × Y)). (e.0, g e.1) ∷ t) (remove_entry-mapped test es))
+    | inl same ↦ rw same refl
+    | inr other ↦ rw other (ap (λ (t : List (K × Y)). (e.0, g e.1) ∷ t) (remove_entry-mapped test es))
   ]
 
   take-mapped : (n : ℕ) (es : List (K × X)) → take n (mapped es) ≡ mapped (take n es)
@@ -70,17 +74,17 @@ module _ {K X Y : Type 0} (g : X → Y) where
   pub present-mapped : (test : K → Bool) (es : List (K × X)) → IsSome (lookup test (mapped es)) → IsSome (lookup test es)
   present-mapped test es h = some-mapped g (lookup test es) (rw (lookup-map_values g test es) at h)
 
--- the keys that a test of each pair refused, in order
-module _ {K Y : Type 0} (said : K → Bool → Type 0) where
-  pub refuses-kept : (ps : List (K × Y)) (ks : List K) (p : K × Y) → Refuses said ps ks → said p.0 true → Refuses said (ps ++ (p ∷ [])) ks
-  refuses-kept [] ks p h s = inl (s, h)
-  refuses-kept (q ∷ ps) ks p (inl a) s = inl (a.0, refuses-kept ps ks p a.1 s)
-  refuses-kept (q ∷ ps) ks p (inr a) s = inr (a.0, (a.1.0, a.1.1, refuses-kept ps a.1.0 p a.1.2 s))
+-- the keys that a test of each pair refused, in order, once one more pair was tested
+module _ {K Y : Type 0} (says : K → Bool → Type 0) where
+  pub refuses-kept : (ps : List (K × Y)) (keys : List K) (p : K × Y) → Refuses says ps keys → says p.0 true → Refuses says (ps ++ (p ∷ [])) keys
+  refuses-kept _ _ p at_last said = passes p [] [] said at_last
+  refuses-kept _ _ p (passes q ps keys a rest) said = passes q (ps ++ (p ∷ [])) keys a (refuses-kept ps keys p rest said)
+  refuses-kept _ _ p (fails q ps keys a rest) said = fails q (ps ++ (p ∷ [])) keys a (refuses-kept ps keys p rest said)
 
-  pub refuses-one : (ps : List (K × Y)) (ks : List K) (p : K × Y) → Refuses said ps ks → said p.0 false → Refuses said (ps ++ (p ∷ [])) (ks ++ (p.0 ∷ []))
-  refuses-one [] ks p h s = inr (s, ([], rw h refl, refl))
-  refuses-one (q ∷ ps) ks p (inl a) s = inl (a.0, refuses-one ps ks p a.1 s)
-  refuses-one (q ∷ ps) ks p (inr a) s = inr (a.0, (a.1.0 ++ (p.0 ∷ []), rw a.1.1 refl, refuses-one ps a.1.0 p a.1.2 s))
+  pub refuses-one : (ps : List (K × Y)) (keys : List K) (p : K × Y) → Refuses says ps keys → says p.0 false → Refuses says (ps ++ (p ∷ [])) (keys ++ (p.0 ∷ []))
+  refuses-one _ _ p at_last said = fails p [] [] said at_last
+  refuses-one _ _ p (passes q ps keys a rest) said = passes q (ps ++ (p ∷ [])) (keys ++ (p.0 ∷ [])) a (refuses-one ps keys p rest said)
+  refuses-one _ _ p (fails q ps keys a rest) said = fails q (ps ++ (p ∷ [])) (keys ++ (p.0 ∷ [])) a (refuses-one ps keys p rest said)
 
 -- the entries without those of these keys
 module _ {K X : Type 0} (eq : K → K → Bool) where
@@ -92,23 +96,29 @@ module _ {K X : Type 0} (eq : K → K → Bool) where
   without_all-more [] k es = refl
   without_all-more (j ∷ ks) k es = without_all-more ks k (remove_entry (eq j) es)
 
-  -- a key that differs from the first one's leaves the first entry in front
-  stays : (e : K × X) (ks : List K) (es : List (K × X)) → AllByRecursion (λ k. eq k e.0 ≡ false) ks → without_all ks (e ∷ es) ≡ e ∷ without_all ks es
-  stays e [] es h = refl
-  stays e (k ∷ ks) es h = rw h.0 (stays e ks (remove_entry (eq k) es) h.1)
+  -- one more of the keys taken out
+  pub without_all-next : (ks : List K) (i : ℕ) (k : K) (es now next : List (K × X)) → now ≡ without_all (take i ks) es → next ≡ remove_entry (eq k) now → take (suc i) ks ≡ take i ks ++ (k ∷ [])
+      → next ≡ without_all (take (i + 1) ks) es
+  without_all-next ks i k es now next before step more = rw (step, before, add-one, more, without_all-more) refl
 
-  module _ {Y : Type 0} (g : X → Y) (said : K → Bool → Type 0) where
-    -- no refused key is that of an entry apart from them
-    apart : (k : K) (es : List (K × X)) (ks : List K) → ((x y : K) → eq x y ≡ eq y x) → AllByRecursion (λ y. eq k y ≡ false) (keys_of es) → Refuses said (mapped g es) ks
+  -- keys that differ from the first entry's leave it in front
+  first-stays : (e : K × X) (ks : List K) (es : List (K × X)) → AllByRecursion (λ k. eq k e.0 ≡ false) ks → without_all ks (e ∷ es) ≡ e ∷ without_all ks es
+  first-stays e [] es h = refl
+  first-stays e (k ∷ ks) es h = rw h.0 (first-stays e ks (remove_entry (eq k) es) h.1)
+
+  module _ {Y : Type 0} (g : X → Y) (says : K → Bool → Type 0) where
+    -- a key that differs from all of these entries' differs from the refused ones among them
+    apart : (k : K) (es : List (K × X)) (ks : List K) → ((x y : K) → eq x y ≡ eq y x) → AllByRecursion (λ y. eq k y ≡ false) (keys_of es) → Refuses says (mapped g es) ks
         → AllByRecursion (λ j. eq j k ≡ false) ks
-    apart k [] ks symmetric h r = rw r tt
-    apart k (e ∷ es) ks symmetric h (inl a) = apart k es ks symmetric h.1 a.1
-    apart k (e ∷ es) ks symmetric h (inr a) = rw a.1.1 (symmetric e.0 k ∙ h.0, apart k es a.1.0 symmetric h.1 a.1.2)
+    apart k [] _ symmetric h at_last = tt
+    apart k (e ∷ es) ks symmetric h (passes _ _ _ said rest) = apart k es ks symmetric h.1 rest
+    apart k (e ∷ es) _ symmetric h (fails _ _ keys said rest) = (symmetric e.0 k ∙ h.0, apart k es keys symmetric h.1 rest)
 
-    pub keeps-all : (es : List (K × X)) (ks : List K) → ((x y : K) → eq x y ≡ eq y x) → ((x : K) → eq x x ≡ true) → IsDistinct eq (keys_of es) → Refuses said (mapped g es) ks
-        → Keeps said (mapped g es) (mapped g (without_all ks es))
+    pub keeps-all : (es : List (K × X)) (ks : List K) → ((x y : K) → eq x y ≡ eq y x) → ((x : K) → eq x x ≡ true) → IsDistinct eq (keys_of es) → Refuses says (mapped g es) ks
+        → Keeps says (mapped g es) (mapped g (without_all ks es))
     unfolding IsDistinct
-    keeps-all [] ks symmetric reflexive d r = rw r refl
-    keeps-all (e ∷ es) ks symmetric reflexive d (inl a) =
-        rw (stays e ks es (apart e.0 es ks symmetric d.0 a.1)) (inl (a.0, (mapped g (without_all ks es), refl, keeps-all es ks symmetric reflexive d.1 a.1)))
-    keeps-all (e ∷ es) ks symmetric reflexive d (inr a) = rw (a.1.1, reflexive e.0) (inr (a.0, keeps-all es a.1.0 symmetric reflexive d.1 a.1.2))
+    keeps-all [] _ symmetric reflexive d at_last = at_end
+    keeps-all (e ∷ es) ks symmetric reflexive d (passes _ _ _ said rest) =
+        rw (first-stays e ks es (apart e.0 es ks symmetric d.0 rest)) (stays (e.0, g e.1) (mapped g es) (mapped g (without_all ks es)) said (keeps-all es ks symmetric reflexive d.1 rest))
+    keeps-all (e ∷ es) _ symmetric reflexive d (fails _ _ keys said rest) =
+        rw (reflexive e.0) (goes (e.0, g e.1) (mapped g es) (mapped g (without_all keys es)) said (keeps-all es keys symmetric reflexive d.1 rest))

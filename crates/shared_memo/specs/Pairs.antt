@@ -1,5 +1,5 @@
 -- What a contract sees of a memo: its pairs, the most recently used first, and how many there may be.
-use Rattle.std.specs.Prelude.{◌≡◌, ℕ, ◌≤◌, Bool, true, false, List, [], ◌∷◌, length, take, ◌-◌, refl, ◌⊎◌}
+use Rattle.std.specs.Prelude.{ℕ, ◌≤◌, Bool, true, false, List, [], ◌∷◌, length, take, ◌-◌, refl}
 use Rattle.std.specs.List.{IsDistinct}
 use Rattle.std.specs.Map.{keys_of, lookup_entry, remove_entry}
 use Rattle.std.specs.Option.{option_map_or}
@@ -31,13 +31,15 @@ module _ {K V : Type 0} where
   abbrev pub with_pair : (K → K → Bool) → Memo K V → K → V → List (K × V)
   with_pair eq m k v = option_map_or (λ p. (p.0, v) ∷ remove_entry (eq k) m.pairs) (lookup_entry (eq k) m.pairs) ((k, v) ∷ take (m.most - 1) m.pairs)
 
-  -- the new list has, in order, those pairs of the old one whose keys are kept;
-  -- `says k b` is that a call of the test on the key k answered b
-  abbrev pub Keeps : (K → Bool → Type 0) → List (K × V) → List (K × V) → Type 0
-  Keeps says [] new = new ≡ []
-  Keeps says (p ∷ ps) new = (says p.0 true × ((rest : List (K × V)) × (new ≡ p ∷ rest) × Keeps says ps rest)) ⊎ (says p.0 false × Keeps says ps new)
+-- the new list has, in order, those pairs of the old one whose keys are kept;
+-- `says k b` is that a call of the test on the key k answered b
+pub data Keeps {K V : Type 0} (says : K → Bool → Type 0) : List (K × V) → List (K × V) → Type 0 where
+  at_end : Keeps says [] []
+  stays : (p : K × V) (old new : List (K × V)) → says p.0 true → Keeps says old new → Keeps says (p ∷ old) (p ∷ new)
+  goes : (p : K × V) (old new : List (K × V)) → says p.0 false → Keeps says old new → Keeps says (p ∷ old) new
 
-  -- these are, in order, the keys of the pairs that are not kept
-  abbrev pub Refuses : (K → Bool → Type 0) → List (K × V) → List K → Type 0
-  Refuses says [] keys = keys ≡ []
-  Refuses says (p ∷ ps) keys = (says p.0 true × Refuses says ps keys) ⊎ (says p.0 false × ((rest : List K) × (keys ≡ p.0 ∷ rest) × Refuses says ps rest))
+-- these are, in order, the keys of the pairs that are not kept
+pub data Refuses {K V : Type 0} (says : K → Bool → Type 0) : List (K × V) → List K → Type 0 where
+  at_last : Refuses says [] []
+  passes : (p : K × V) (ps : List (K × V)) (keys : List K) → says p.0 true → Refuses says ps keys → Refuses says (p ∷ ps) keys
+  fails : (p : K × V) (ps : List (K × V)) (keys : List K) → says p.0 false → Refuses says ps keys → Refuses says (p ∷ ps) (p.0 ∷ keys)

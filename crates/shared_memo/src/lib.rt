@@ -1,4 +1,7 @@
 //! A memo of bounded size: a map from keys to shared values that forgets the value used longest ago.
+//!
+//! The words of its contracts stand in `specs/Pairs.antt`, and `proofs/CallerLemmas.antt` has what a
+//! caller's proof cites of them.
 #![tactic(auto)]
 
 ghost use Rattle.std.specs.Prelude.{◌≡◌, ◌≤◌, [], length, IfOk, IfErr, OnOk, OnErr, IsOk, IsSome, option_map};
@@ -112,6 +115,7 @@ impl<K: Eq + Hash + Drop, V: Drop> Memo<K, V> {
         ensures most { self.new.most ≡ self.old.most }
         ensures err { OnErr result (self.new ≡ self.old) }
     {
+        // Its contract tells that no two keys are equal, so each twin takes out its own pair alone.
         let _count = self.cache.len();
         let refused = self.refused_keys(&keep)?;
         for key in &refused {

@@ -1,9 +1,7 @@
-use Rattle.std.proofs.Common.{◌∙◌, sym, ap, refl}
-use Rattle.std.specs.Prelude.{option_map}
+use Rattle.std.proofs.Common.{sym, ap, refl}
 use Rattle.std.specs.Arc.{arc_value}
-use Rattle.std.proofs.lemmas.Map.Made.{lookup-map_values}
 use Rattle.shared_memo.specs.Pairs.{memo}
-use Rattle.shared_memo.proofs.Mapped.{in_front-mapped, copied-mapped}
+use Rattle.shared_memo.proofs.Mapped.{in_front-mapped, found-mapped}
 use Rattle.shared_memo.proofs.Memo.get.Goals as goal
 
 pub returns : goal.returns
@@ -12,5 +10,5 @@ returns g c =
     let es = c.self.inside.cache.entries in
     rw (← c.self.view_is) (
       (refl, λ _. tt, rw c.get.follows.holds-at-none (ap (λ ps. memo ps c.self.inside.cache.cap) (sym (in_front-mapped arc_value test es)))),
-      record { front = tt; value = copied-mapped arc_value c.get.result ∙ ap (option_map arc_value) c.get.ensures.value ∙ sym (lookup-map_values arc_value test es) },
+      record { front = tt; value = found-mapped arc_value test es c.get.result c.get.ensures.value },
     )

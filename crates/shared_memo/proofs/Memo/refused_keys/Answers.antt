@@ -2,8 +2,12 @@ use Rattle.std.proofs.Common.{rules, ◌≡◌, ◌∙◌, sym, ap, refl, [], �
 use Rattle.std.specs.Result.{is_ok}
 use Rattle.std.specs.Arc.{arc_value}
 use Rattle.std.specs.Fn.{FnReturnsAt}
+use Rattle.shared_memo.specs.Pairs.{at_last}
 use Rattle.shared_memo.proofs.Mapped.{refuses-kept, refuses-one, mapped, mapped-more}
 use Rattle.shared_memo.proofs.Memo.refused_keys.Goals as goal
+
+pub loop-key-init : goal.loop-key-init
+loop-key-init g c = ([], refl, rw c.new-refused.ensures.items at_last)
 
 pub loop-key-preserved-in_ok-push : goal.loop-key-preserved-in_ok-push
 loop-key-preserved-in_ok-push g c =

@@ -5,3 +5,4 @@ pub mod Cell
 pub mod Sound
 pub mod Contents
 pub mod Outside
+pub mod Refusals

@@ -1,0 +1,13 @@
+pub mod Bills
+pub mod Days
+pub mod Amounts
+pub mod Netting
+pub mod Plan
+pub mod Refused
+pub mod Pegs
+pub mod Promise
+pub mod Laws
+pub use Rattle.plan_schema.specs.Key
+pub use Rattle.plan_schema.specs.Contents
+pub use Rattle.plan_schema.specs.Sound
+pub use Rattle.plan_schema.specs.Refusals

@@ -11,7 +11,8 @@ mod write;
 
 pub use key_form::read_key;
 pub use laws::{
-    keys_have_one_spelling, lots_have_one_spelling, numbers_have_one_spelling, rows_have_one_spelling,
+    keys_have_one_spelling, lots_have_one_spelling, numbers_have_one_spelling,
+    rows_have_one_spelling,
 };
 pub use number::{is_digits, read_number};
 pub use row::read_record;

@@ -1,0 +1,3 @@
+pub use Rattle.plan_schema.specs.Outside
+pub mod Lines
+pub mod Cuts

@@ -1,0 +1,9 @@
+//! Lines of byte streams, and the devices that streams come from and go to.
+#![tactic(auto)]
+
+mod bytes;
+mod cutter;
+
+pub use bytes::Bytes;
+pub use cutter::{Cut, Cutter};
+pub use plan_schema::outside::{Failed, Shelf, ShelfFault, Sink, SinkFault, Source, write_all};

@@ -1,3 +1,4 @@
 pub use Rattle.plan_schema.specs.Outside
 pub mod Lines
 pub mod Cuts
+pub mod ReadAll

@@ -3,7 +3,9 @@
 
 mod bytes;
 mod cutter;
+mod reading;
 
 pub use bytes::Bytes;
 pub use cutter::{Cut, Cutter};
+pub use reading::{ReadAllFault, read_all};
 pub use plan_schema::outside::{Failed, Shelf, ShelfFault, Sink, SinkFault, Source, write_all};

@@ -29,11 +29,11 @@ module _ {before bytes : List ℕ} {now after : Option (List ℕ)} {into : List 
   -- a front was left by the last read
   pub read_front : (most : ℕ) → length bytes + n ≤ most → ReadFront before after most
   read_front most few = record {
-      count = length bytes + n;
-      within = omega (arith, so_far.within, front.within, length-drop (length bytes) before);
-      few = few;
-      rest = front.rest ∙ ap Some (drop-drop n (length bytes) before)
-    }
+    count = length bytes + n;
+    within = omega (arith, so_far.within, front.within, length-drop (length bytes) before);
+    few = few;
+    rest = front.rest ∙ ap Some (drop-drop n (length bytes) before);
+  }
 
   -- more bytes were left than are wanted
   pub read_large : (most : ℕ) → most < length bytes + n → most < length before
@@ -46,5 +46,5 @@ module _ {before bytes : List ℕ} {now after : Option (List ℕ)} {into : List 
       record {
         within = omega (arith, long, so_far.within, front.within, length-drop (length bytes) before);
         front = ap (λ xs. bytes ++ xs) front.given ∙ ap (λ xs. xs ++ take n (drop (length bytes) before)) so_far.front ∙ sym (take-add (length bytes) n before) ∙ ap (λ m. take m before) (sym long);
-        rest = front.rest ∙ ap Some (drop-drop n (length bytes) before) ∙ ap (λ m. Some (drop m before)) (sym long)
+        rest = front.rest ∙ ap Some (drop-drop n (length bytes) before) ∙ ap (λ m. Some (drop m before)) (sym long);
       }

@@ -26,12 +26,32 @@ impl MemoryIn {
         ensures faults { ⟦<MemoryIn as Source>⟧.faults result ≡ 0 }
         ensures label { ⟦<MemoryIn as Source>⟧.label result ≡ [] }
     {
+        MemoryIn::after(alloc, bytes, fails, 0)
+    }
+
+    // The same, where so many calls were made before.
+    pub(crate) fn after(alloc: Global, bytes: Bytes, fails: Calls, calls: u64) -> MemoryIn
+        ensures left { ⟦<MemoryIn as Source>⟧.left result ≡ Some bytes }
+        ensures faults { ⟦<MemoryIn as Source>⟧.faults result ≡ 0 }
+    {
         MemoryIn {
             source: SteadyIn::new(alloc, bytes),
             fails,
-            calls: 0,
+            calls,
             faults: 0,
         }
+    }
+
+    // How many calls were made.
+    pub(crate) fn calls(&self) -> u64 {
+        self.calls
+    }
+
+    // How many reads failed.
+    pub(crate) fn faults(&self) -> u64
+        ensures { ⟦<MemoryIn as Source>⟧.faults self.now ≡ result }
+    {
+        self.faults
     }
 }
 
@@ -68,12 +88,39 @@ impl MemoryOut {
         ensures faults { ⟦<MemoryOut as Sink>⟧.faults result ≡ 0 }
         ensures label { ⟦<MemoryOut as Sink>⟧.label result ≡ [] }
     {
+        MemoryOut::after(alloc, fails, 0)
+    }
+
+    // The same, where so many calls were made before.
+    pub(crate) fn after(alloc: Global, fails: Calls, calls: u64) -> MemoryOut
+        ensures taken { ⟦<MemoryOut as Sink>⟧.taken result ≡ Some [] }
+        ensures faults { ⟦<MemoryOut as Sink>⟧.faults result ≡ 0 }
+    {
         MemoryOut {
             sink: SteadyOut::new(alloc),
             fails,
-            calls: 0,
+            calls,
             faults: 0,
         }
+    }
+
+    // How many calls were made.
+    pub(crate) fn calls(&self) -> u64 {
+        self.calls
+    }
+
+    // How many writes failed.
+    pub(crate) fn faults(&self) -> u64
+        ensures { ⟦<MemoryOut as Sink>⟧.faults self.now ≡ result }
+    {
+        self.faults
+    }
+
+    // What was taken, as a list.
+    pub(crate) fn into_bytes(self) -> Bytes
+        ensures { ⟦<MemoryOut as Sink>⟧.taken self ≡ Some result }
+    {
+        self.sink.into_bytes()
     }
 
     /// What was taken.

@@ -177,6 +177,11 @@ impl Rows {
         }
     }
 
+    /// How many reads and writes of a name's parts were noted.
+    pub(crate) fn calls(&self, name: &str) -> u64 {
+        self.find(name).map_or(0, |slot| slot.calls)
+    }
+
     /// Makes a name hold these bytes.
     pub(crate) fn hold(&mut self, room: Room, bytes: Bytes)
         ensures here { held_in self.new room.name ≡ bytes }

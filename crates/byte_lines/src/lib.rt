@@ -3,6 +3,7 @@
 
 mod bytes;
 mod cutter;
+mod files;
 mod memory;
 mod memory_shelf;
 mod named_calls;
@@ -14,6 +15,7 @@ mod steady_shelf;
 
 pub use bytes::Bytes;
 pub use cutter::{Cut, Cutter};
+pub use files::{FileIn, FileOut, FileShelf};
 pub use memory::{Calls, MemoryIn, MemoryOut};
 pub use memory_shelf::{MemoryShelf, memory_shelves_tell};
 pub use named_calls::NamedCalls;

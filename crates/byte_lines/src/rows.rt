@@ -220,6 +220,19 @@ impl Rows {
         self.put(room, slot);
     }
 
+    /// Counts the writes to a sink that failed, and notes how many calls there were.
+    pub(crate) fn add_write_faults(&mut self, room: Room, more: u64, calls: u64)
+        ensures count { Counted room.name more (write_faults_in self.old) (write_faults_in self.new) }
+        ensures holds { Stays (held_in self.old) (held_in self.new) }
+        ensures opens { Stays (open_faults_in self.old) (open_faults_in self.new) }
+        ensures reads { Stays (read_faults_in self.old) (read_faults_in self.new) }
+    {
+        let mut slot = self.take(&room.name);
+        slot.write_faults = slot.write_faults.saturating_add(more);
+        slot.calls = slot.calls.max(calls);
+        self.put(room, slot);
+    }
+
     /// Counts the writes to a sink that failed, notes how many calls there were, and makes the name hold these bytes.
     pub(crate) fn add_written(&mut self, room: Room, bytes: Bytes, more: u64, calls: u64)
         ensures here { held_in self.new room.name ≡ bytes }

@@ -8,7 +8,7 @@ use crate::number::read_number;
 use plan_schema::{Day, FieldFault, Name, Rule};
 
 /// Whether a text is a word.
-pub(crate) fn is_word(text: &[u8], word: &[u8]) -> bool
+pub fn is_word(text: &[u8], word: &[u8]) -> bool
     ensures { result ≡ pointwise nat_eq text.now word.now }
 {
     text == word
@@ -16,7 +16,7 @@ pub(crate) fn is_word(text: &[u8], word: &[u8]) -> bool
 
 /// The text of a field.
 #[tactic(auto, unfolding(crate::specs::Row::text_at))]
-pub(crate) fn text_at<'a>(fields: &[&'a [u8]], field: u32) -> Result<&'a [u8], FieldFault>
+pub fn text_at<'a>(fields: &[&'a [u8]], field: u32) -> Result<&'a [u8], FieldFault>
     ensures { MatchResult result (λ text. spec.text_at (texts fields.now) field ≡ Ok text.now) (λ fault. spec.text_at (texts fields.now) field ≡ Err fault) }
 {
     match fields.get(field as usize) {
@@ -30,7 +30,7 @@ pub(crate) fn text_at<'a>(fields: &[&'a [u8]], field: u32) -> Result<&'a [u8], F
 
 /// That no field stands there.
 #[tactic(auto, unfolding(crate::specs::Row::end_at))]
-pub(crate) fn end_at(fields: &[&[u8]], field: u32) -> Result<(), FieldFault>
+pub fn end_at(fields: &[&[u8]], field: u32) -> Result<(), FieldFault>
     ensures { result ≡ spec.end_at (texts fields.now) field }
 {
     if fields.len() > field as usize {
@@ -44,7 +44,7 @@ pub(crate) fn end_at(fields: &[&[u8]], field: u32) -> Result<(), FieldFault>
 
 /// The name that a field is.
 #[tactic(auto, unfolding(crate::specs::Row::name_at, crate::specs::Row::name_in))]
-pub(crate) fn name_at(fields: &[&[u8]], field: u32) -> Result<Name, FieldFault>
+pub fn name_at(fields: &[&[u8]], field: u32) -> Result<Name, FieldFault>
     ensures { result ≡ spec.name_at (texts fields.now) field }
 {
     let text = text_at(fields, field)?;
@@ -59,7 +59,7 @@ pub(crate) fn name_at(fields: &[&[u8]], field: u32) -> Result<Name, FieldFault>
 
 /// The number from `low` to `high` that a field is.
 #[tactic(auto, unfolding(crate::specs::Row::number_at))]
-pub(crate) fn number_at(
+pub fn number_at(
     fields: &[&[u8]],
     field: u32,
     low: u64,
@@ -78,7 +78,7 @@ pub(crate) fn number_at(
 
 /// The day that a field is.
 #[tactic(auto, unfolding(crate::specs::Row::day_at))]
-pub(crate) fn day_at(fields: &[&[u8]], field: u32) -> Result<Day, FieldFault>
+pub fn day_at(fields: &[&[u8]], field: u32) -> Result<Day, FieldFault>
     ensures { result ≡ spec.day_at (texts fields.now) field }
 {
     let text = text_at(fields, field)?;
@@ -90,7 +90,7 @@ pub(crate) fn day_at(fields: &[&[u8]], field: u32) -> Result<Day, FieldFault>
 
 /// The component that a field is: another name than the parent's.
 #[tactic(auto, unfolding(crate::specs::Row::component_at))]
-pub(crate) fn component_at(fields: &[&[u8]], field: u32, parent: &Name) -> Result<Name, FieldFault>
+pub fn component_at(fields: &[&[u8]], field: u32, parent: &Name) -> Result<Name, FieldFault>
     ensures { result ≡ spec.component_at (texts fields.now) field parent.now }
 {
     let component = name_at(fields, field)?;

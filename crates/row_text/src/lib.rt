@@ -10,6 +10,7 @@ mod open;
 mod row;
 mod write;
 
+pub use field::{day_at, end_at, is_word, name_at, number_at, text_at};
 pub use key_form::read_key;
 pub use laws::{
     keys_have_one_spelling, lots_have_one_spelling, numbers_have_one_spelling,
@@ -18,4 +19,6 @@ pub use laws::{
 pub use number::{is_digits, read_number};
 pub use open::read_open_record;
 pub use row::read_record;
-pub use write::{RowText, key_bytes, row_bytes, write_key, write_record};
+pub use write::{
+    RowText, key_bytes, push_day, push_number, push_word, row_bytes, write_key, write_record,
+};

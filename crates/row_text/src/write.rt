@@ -10,7 +10,7 @@ use itoa::Buffer;
 use plan_schema::outside::{Sink, SinkFault, write_all};
 use plan_schema::{Day, Key, Lot, Name, Record, Span};
 
-/// Room for the text of any row.
+/// Room for the text of a row, or of a line of a reply.
 pub type RowText = ArrayVec<u8, 256>;
 
 /// Writes the row's one spelling.
@@ -138,7 +138,7 @@ fn push_span(text: &mut RowText, span: &Option<Span>)
 }
 
 /// Adds a day behind a space.
-fn push_day(text: &mut RowText, day: &Day)
+pub fn push_day(text: &mut RowText, day: &Day)
     requires { array_vec_len text.old ≤ 220 }
     ensures items { text.new.items ≡ text.old.items ++ 32 ∷ day_text day.now }
     ensures len { array_vec_len text.new ≡ array_vec_len text.old + 11 }
@@ -147,7 +147,7 @@ fn push_day(text: &mut RowText, day: &Day)
 }
 
 /// Adds a number's digits behind a space.
-fn push_number(text: &mut RowText, number: u64)
+pub fn push_number(text: &mut RowText, number: u64)
     requires { array_vec_len text.old ≤ 220 }
     ensures items { text.new.items ≡ text.old.items ++ 32 ∷ decimal number }
     ensures len { array_vec_len text.new ≤ array_vec_len text.old + 21 }
@@ -157,7 +157,7 @@ fn push_number(text: &mut RowText, number: u64)
 }
 
 /// Adds a word behind a space.
-fn push_word(text: &mut RowText, word: &[u8])
+pub fn push_word(text: &mut RowText, word: &[u8])
     requires { array_vec_len text.old + 1 + length word.now ≤ 256 }
     ensures items { text.new.items ≡ text.old.items ++ 32 ∷ word.now }
     ensures len { array_vec_len text.new ≡ array_vec_len text.old + 1 + length word.now }

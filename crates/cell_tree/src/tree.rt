@@ -1,4 +1,4 @@
-ghost use Rattle.std.specs.Prelude.{◌≡◌, [], length, IfOk, slice_get, ◌==◌};
+ghost use Rattle.std.specs.Prelude.{◌≡◌, ◌^◌, ◌<◌, [], length, IfOk, slice_get, ◌==◌};
 ghost use Rattle.std.specs.Option.{option_map};
 ghost use Rattle.std.specs.Arc.{arc_value};
 ghost use Rattle.std.specs.List.Sorted.{IsStrictlySortedBy};
@@ -88,10 +88,11 @@ impl<K: Ord + Copy, V> Tree<K, V> {
     pub fn iter(&self) -> Iter<'_, K, V>
         ensures pairs { result ≡ self.now }
         ensures sorted { IsStrictlySortedBy K.cmp (keys_of self.now) }
+        ensures bound { length self.now < 2 ^ 64 }
     {
         match &self.root {
-            Some(pieces) => Iter::new(pieces.list()),
-            None => Iter::new(&[]),
+            Some(pieces) => Iter::new(pieces.list(), pieces.len()),
+            None => Iter::new(&[], 0),
         }
     }
 }

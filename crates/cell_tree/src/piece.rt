@@ -77,7 +77,9 @@ impl<K: Ord + Copy, V: Drop> Piece<K, V> {
         share_pairs(&mut pairs, &self.pairs[..cut.from])?;
         pairs.push((cut.key, value))?;
         share_pairs(&mut pairs, &self.pairs[cut.to..])?;
-        Piece::parted(pairs)
+        // A key behind all others leaves a full piece, so that rising keys make few pieces.
+        let lower = if cut.from == MOST { MOST } else { MOST / 2 };
+        Piece::parted(pairs, lower)
     }
 
     /// Without the key and its value: nothing where it was the last.
@@ -94,20 +96,21 @@ impl<K: Ord + Copy, V: Drop> Piece<K, V> {
         Ok(Some(Piece { pairs }))
     }
 
-    // One piece of the pairs, or two halves where they are too many for one.
-    fn parted(mut pairs: Vec<(K, Arc<V>)>) -> Result<(Self, Option<Self>), AllocError>
+    // One piece of the pairs, or two where they are too many for one: the lower gets as many as is said.
+    fn parted(mut pairs: Vec<(K, Arc<V>)>, lower: usize) -> Result<(Self, Option<Self>), AllocError>
         requires some { 0 < length pairs.items }
         requires few { length pairs.items ≤ 65 }
+        requires part { 0 < lower }
+        requires low { lower ≤ 64 }
         requires sorted { IsStrictlySortedBy K.cmp (keys_of pairs.items) }
         ensures { IfOk result (λ p. p.0 ++ unwrap_or p.1 [] ≡ shown pairs.items) }
     {
         if pairs.len() <= MOST {
             return Ok((Piece { pairs }, None));
         }
-        let half = pairs.len() / 2;
-        let mut upper = Vec::with_capacity(*pairs.allocator(), half + 1)?;
-        share_pairs(&mut upper, &pairs[half..])?;
-        pairs.truncate(half);
+        let mut upper = Vec::with_capacity(*pairs.allocator(), pairs.len() - lower)?;
+        share_pairs(&mut upper, &pairs[lower..])?;
+        pairs.truncate(lower);
         Ok((Piece { pairs }, Some(Piece { pairs: upper })))
     }
 }

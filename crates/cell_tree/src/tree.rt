@@ -3,7 +3,9 @@ ghost use Rattle.std.specs.Option.{option_map};
 ghost use Rattle.std.specs.Arc.{arc_value};
 ghost use Rattle.std.specs.List.Sorted.{IsStrictlySortedBy};
 ghost use Rattle.std.specs.Map.{keys_of, lookup, remove_entry};
+ghost use Rattle.std.specs.Map.Iter.{ShowsInOrder, ShowsValuesInOrder};
 ghost use Rattle.std.specs.BTreeMap.{is_at, insert_entry};
+ghost use Rattle.cell_tree.specs.Pairs.{shown_pair};
 
 use crate::iter::Iter;
 use crate::pieces::Pieces;
@@ -87,6 +89,8 @@ impl<K: Ord + Copy, V> Tree<K, V> {
     /// The pairs in the order of their keys.
     pub fn iter(&self) -> Iter<'_, K, V>
         ensures pairs { result ≡ self.now }
+        ensures runs { ShowsInOrder (shown_pair {K = K} {V = V}) }
+        ensures values_run { ShowsValuesInOrder (shown_pair {K = K} {V = V}) }
         ensures sorted { IsStrictlySortedBy K.cmp (keys_of self.now) }
         ensures bound { length self.now < 2 ^ 64 }
     {

@@ -1,0 +1,176 @@
+// The pieces of a tree that has pairs.
+ghost use Rattle.std.specs.Prelude.{◌≡◌, ◌+◌, ◌<◌, [], ◌∷◌, ◌++◌, length, IfOk, IfSome, IsSome, Some, unwrap_or, slice_get, take, drop};
+ghost use Rattle.std.specs.Option.{option_map};
+ghost use Rattle.std.specs.Arc.{arc_value};
+ghost use Rattle.std.specs.List.Sorted.{IsStrictlySortedBy};
+ghost use Rattle.std.specs.Map.{keys_of, lookup, remove_entry};
+ghost use Rattle.std.specs.BTreeMap.{is_at, insert_entry};
+ghost use Rattle.cell_tree.specs.Pairs.{all_pairs};
+ghost use Rattle.cell_tree.specs.Places.{IsBelow, IsAbove};
+
+use crate::piece::Piece;
+use crate::shares::{add_piece, share_pieces};
+use std::alloc::{AllocError, Global};
+use std::marker::Model;
+use std::sync::Arc;
+
+/// Pieces in the order of their keys, and how many pairs they have. Contracts see the list of all pairs.
+#[derive(Drop)]
+pub(crate) struct Pieces<K: Ord, V> {
+    list: Vec<Arc<Piece<K, V>>>,
+    len: usize,
+}
+
+impl<K: Ord, V> Model for Pieces<K, V> {
+    ghost use Rattle.std.specs.Prelude.{List, ◌≡◌, ◌<◌, length};
+    ghost use Rattle.std.specs.List.Sorted.{IsStrictlySortedBy};
+    ghost use Rattle.std.specs.Map.{keys_of};
+    ghost use Rattle.cell_tree.specs.Pairs.{all_pairs};
+
+    ghost Value = { List (K × V) };
+
+    ghost view = { λ p. all_pairs p.list.items };
+
+    ghost invariant = { λ p. (0 < length p.list.items) × (p.len ≡ length (all_pairs p.list.items)) × IsStrictlySortedBy K.cmp (keys_of (all_pairs p.list.items)) };
+}
+
+impl<K: Ord + Copy, V> Pieces<K, V> {
+    pub(crate) fn len(&self) -> usize
+        ensures len { result ≡ length self.now }
+        ensures sorted { IsStrictlySortedBy K.cmp (keys_of self.now) }
+    {
+        self.len
+    }
+
+    pub(crate) fn list(&self) -> &[Arc<Piece<K, V>>]
+        ensures pairs { all_pairs result.now ≡ self.now }
+        ensures sorted { IsStrictlySortedBy K.cmp (keys_of self.now) }
+    {
+        &self.list
+    }
+
+    pub(crate) fn get(&self, key: &K) -> Option<&Arc<V>>
+        ensures { option_map (λ v. arc_value v.now) result ≡ lookup (is_at (K.cmp key.now)) self.now }
+    {
+        let place = piece_for(&self.list, key);
+        self.list[place].get(key)
+    }
+
+    pub(crate) fn at(&self, place: usize) -> Option<(K, &Arc<V>)>
+        ensures { option_map (λ e. (e.0, arc_value e.1.now)) result ≡ slice_get self.now place }
+    {
+        let mut rest = place;
+        for piece in &self.list {
+            let pairs = piece.pairs();
+            if rest < pairs.len() {
+                let pair = &pairs[rest];
+                return Some((pair.0, &pair.1));
+            }
+            rest -= pairs.len();
+        }
+        None
+    }
+}
+
+impl<K: Ord + Copy, V: Drop> Pieces<K, V> {
+    pub(crate) fn one(alloc: Global, key: K, value: Arc<V>) -> Result<Self, AllocError>
+        ensures { IfOk result (λ p. p ≡ (key, arc_value value) ∷ []) }
+    {
+        let mut list = Vec::new(alloc);
+        let piece = Piece::one(alloc, key, value)?;
+        list.push(Arc::new(alloc, piece)?)?;
+        Ok(Pieces { list, len: 1 })
+    }
+
+    /// An error where there are too many pairs to count, too.
+    pub(crate) fn with(&self, key: K, value: Arc<V>) -> Result<Self, AllocError>
+        ensures { IfOk result (λ p. p ≡ insert_entry K.cmp self.now key (arc_value value)) }
+    {
+        let len = self.len_with(&key).ok_or(AllocError)?;
+        let list = self.list_with(key, value)?;
+        Ok(Pieces { list, len })
+    }
+
+    /// Nothing where no pair is left.
+    pub(crate) fn without(&self, key: &K) -> Result<Option<Self>, AllocError>
+        requires { IsSome (lookup (is_at (K.cmp key.now)) self.now) }
+        ensures { IfOk result (λ p. unwrap_or p [] ≡ remove_entry (is_at (K.cmp key.now)) self.now) }
+    {
+        let list = self.list_without(key)?;
+        if list.is_empty() {
+            return Ok(None);
+        }
+        Ok(Some(Pieces {
+            list,
+            len: self.len - 1,
+        }))
+    }
+
+    // How many pairs there are with one under the key: nothing where they are too many to count.
+    fn len_with(&self, key: &K) -> Option<usize>
+        ensures { IfSome result (λ n. (value : V) → n ≡ length (insert_entry K.cmp self.now key.now value)) }
+    {
+        if self.get(key).is_some() {
+            Some(self.len)
+        } else {
+            self.len.checked_add(1)
+        }
+    }
+
+    fn list_with(&self, key: K, value: Arc<V>) -> Result<Vec<Arc<Piece<K, V>>>, AllocError>
+        ensures pairs { IfOk result (λ v. all_pairs v.items ≡ insert_entry K.cmp self.now key (arc_value value)) }
+        ensures sorted { IfOk result (λ v. IsStrictlySortedBy K.cmp (keys_of (all_pairs v.items))) }
+    {
+        let place = piece_for(&self.list, &key);
+        let (lower, upper) = self.list[place].with(key, value)?;
+        replaced(&self.list, place, Some(lower), upper)
+    }
+
+    fn list_without(&self, key: &K) -> Result<Vec<Arc<Piece<K, V>>>, AllocError>
+        ensures pairs { IfOk result (λ v. all_pairs v.items ≡ remove_entry (is_at (K.cmp key.now)) self.now) }
+        ensures sorted { IfOk result (λ v. IsStrictlySortedBy K.cmp (keys_of (all_pairs v.items))) }
+    {
+        let place = piece_for(&self.list, key);
+        let left = self.list[place].without(key)?;
+        replaced(&self.list, place, left, None)
+    }
+}
+
+// The place of the last piece whose first key is not above the key, or of the first piece.
+fn piece_for<K: Ord + Copy, V>(pieces: &[Arc<Piece<K, V>>], key: &K) -> usize
+    requires some { 0 < length pieces.now }
+    requires sorted { IsStrictlySortedBy K.cmp (keys_of (all_pairs pieces.now)) }
+    ensures in_range { result < length pieces.now }
+    ensures below { IsBelow K.cmp key.now (all_pairs (take result pieces.now)) }
+    ensures above { IsAbove K.cmp key.now (all_pairs (drop (result + 1) pieces.now)) }
+{
+    let mut low = 1;
+    let mut high = pieces.len();
+    while low < high {
+        let middle = low + (high - low) / 2;
+        if key.cmp(pieces[middle].first_key()).is_lt() {
+            high = middle;
+        } else {
+            low = middle + 1;
+        }
+    }
+    low - 1
+}
+
+// Shares of the pieces, with new pieces, if there are any, in place of the one at a place.
+fn replaced<K: Ord + Copy, V: Drop>(
+    pieces: &Vec<Arc<Piece<K, V>>>,
+    place: usize,
+    lower: Option<Piece<K, V>>,
+    upper: Option<Piece<K, V>>,
+) -> Result<Vec<Arc<Piece<K, V>>>, AllocError>
+    requires { place < length pieces.now.items }
+    ensures { IfOk result (λ v. all_pairs v.items ≡ all_pairs (take place pieces.now.items) ++ (unwrap_or lower [] ++ unwrap_or upper []) ++ all_pairs (drop (place + 1) pieces.now.items)) }
+{
+    let mut list = Vec::with_capacity(*pieces.allocator(), pieces.len() + 1)?;
+    share_pieces(&mut list, &pieces[..place])?;
+    add_piece(&mut list, lower)?;
+    add_piece(&mut list, upper)?;
+    share_pieces(&mut list, &pieces[place + 1..])?;
+    Ok(list)
+}

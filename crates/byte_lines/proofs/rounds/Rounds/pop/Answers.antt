@@ -1,4 +1,4 @@
-use Rattle.std.proofs.Common.{◌≡◌, ◌∙◌, ◌-◌, ◌<◌, suc, sym, ap, drop, length, List, ℕ, true, false, arith}
+use Rattle.std.proofs.Common.{◌≡◌, ◌∙◌, ◌-◌, ◌<◌, suc, sym, ap, drop, ℕ, true, false, arith}
 use Rattle.byte_lines.specs.Desks.{all_desks, no_desks, without_last_desk}
 use Rattle.byte_lines.proofs.DeskSteps.{all_desks-set, without_last_desk-set, without_last_desk-none, no_desks-some}
 use Rattle.byte_lines.proofs.rounds.Rounds.pop.Goals as goal

@@ -1,4 +1,4 @@
-use Rattle.std.proofs.Common.{◌≡◌, ◌∙◌, ◌-◌, ◌++◌, ◌∷◌, [], sym, ap, suc, length, slice_set, arith}
+use Rattle.std.proofs.Common.{◌≡◌, ◌∙◌, ◌-◌, ◌++◌, ◌∷◌, [], sym, ap, length, slice_set, arith}
 use Rattle.std.proofs.lemmas.Result.{on_ok_weaker}
 use Rattle.byte_lines.specs.Desks.{with_desk}
 use Rattle.byte_lines.proofs.DeskSteps.{with_desk-set}

@@ -1,7 +1,7 @@
 -- Desks in rounds.
 use Rattle.std.proofs.Common.{◌≡◌, ◌∙◌, ℕ, ◌-◌, ◌<◌, zero, suc, true, false, List, [], ◌∷◌, ◌++◌, length, take, drop, get_or, refl, sym, ap, arith, append_assoc, append-nil, length-append, slice_set}
 use Rattle.std.proofs.Math.Seq.{take-append_seam}
-use Rattle.byte_lines.specs.Desks.{with_desk, all_desks, no_desks, without_last_desk}
+use Rattle.byte_lines.specs.Desks.{with_desk, all_desks, no_desks, without_last_desk, with_front}
 
 -- the last round with one more desk
 pub with_desk-set : {D : Type 0} (rounds : List (List D)) (round : List D) (desk : D) (last : ℕ) → length rounds ≡ suc last → get_or rounds last round ≡ round
@@ -59,3 +59,7 @@ all_desks-set {D = D} (first ∷ rounds) round front desk zero l e none =
     ap (λ (ds : List D). first ++ ds) empty ∙ append-nil first ∙ e ∙ ap (λ (ds : List D). ds ++ desk ∷ []) (sym (append-nil front)) ∙ ap (λ (ds : List D). front ++ ds ++ desk ∷ []) (sym empty)
 all_desks-set {D = D} (first ∷ rounds) round front desk (suc at) l e none =
     ap (λ (ds : List D). first ++ ds) (all_desks-set rounds round front desk at (omega arith) e none) ∙ sym (append_assoc first (all_desks (slice_set rounds at front)) (desk ∷ []))
+
+-- what was left of a lent slice, which keeps its length, is all
+pub with_front-whole : {D : Type 0} (desks left : List D) → length left ≡ length desks → with_front desks left ≡ left
+with_front-whole {D = D} desks left e = ap (λ n. take n (left ++ drop (length left) desks)) (sym e) ∙ take-append_seam left (drop (length left) desks)

@@ -1,4 +1,6 @@
 //! Tests of devices, shelves and rounds.
+ghost use Rattle.std.specs.Prelude.{◌≡◌};
+
 use crate::files::FileShelf;
 use crate::{
     Bytes, Calls, Desk, MemoryIn, MemoryOut, MemoryShelf, NamedCalls, ReadAllFault, Rounds, Served,
@@ -51,9 +53,16 @@ fn sources_are_read_whole(rt: HostRuntime) -> Result<(), Fail> {
     Ok(())
 }
 
+// Devices may go to a thread.
+fn sent<T: Send>(value: T) -> T
+    ensures { result ≡ value }
+{
+    value
+}
+
 #[test]
 fn devices_fail_at_their_calls(rt: HostRuntime) -> Result<(), Fail> {
-    let mut sink = MemoryOut::new(rt.alloc(), calls_of(rt.alloc(), &[2])?);
+    let mut sink = sent(MemoryOut::new(rt.alloc(), calls_of(rt.alloc(), &[2])?));
     assert_eq!(rt; sink.write(b"ab"), Ok(2));
     assert_eq!(rt; sink.write(b"cd"), Err(SinkFault::Failed));
     assert_eq!(rt; sink.write(b"ef"), Ok(2));
@@ -61,7 +70,7 @@ fn devices_fail_at_their_calls(rt: HostRuntime) -> Result<(), Fail> {
     let mut steady = SteadyOut::new(rt.alloc());
     assert!(rt; write_all(&mut steady, b"gh").is_ok());
     assert_eq!(rt; steady.bytes(), b"gh".as_slice());
-    let mut source = SteadyIn::new(rt.alloc(), steady.into_bytes());
+    let mut source = sent(SteadyIn::new(rt.alloc(), steady.into_bytes()));
     let mut buffer = [0; 1];
     assert!(rt; source.read(&mut buffer).is_ok());
     assert_eq!(rt; buffer, *b"g");
@@ -94,7 +103,7 @@ fn append<H: Shelf>(
 
 #[test]
 fn shelves_hold_what_was_given(rt: HostRuntime) -> Result<(), Fail> {
-    let mut shelf = SteadyShelf::new(rt.alloc());
+    let mut shelf = sent(SteadyShelf::new(rt.alloc()));
     shelf.put("a", b"one")?;
     assert!(rt; append(rt.alloc(), &mut shelf, "a", b" two").is_ok());
     assert!(rt; append(rt.alloc(), &mut shelf, "b", b"three").is_ok());
@@ -143,7 +152,7 @@ fn shelves_fail_at_their_calls(rt: HostRuntime) -> Result<(), Fail> {
 
 #[test]
 fn files_are_written_and_read(rt: HostRuntime) -> Result<(), Fail> {
-    let mut shelf = FileShelf::new(rt.alloc(), &rt);
+    let mut shelf = sent(FileShelf::new(rt.alloc(), &rt));
     let missing = append(rt.alloc(), &mut shelf, "no-such-file.txt", b"");
     assert_eq!(rt; missing, Err(ShelfFault::Failed));
     assert_eq!(rt; shelf.open_faults("no-such-file.txt"), 1);
@@ -152,13 +161,17 @@ fn files_are_written_and_read(rt: HostRuntime) -> Result<(), Fail> {
     assert_eq!(rt; shelf.open_faults("shelf-test.txt"), 0);
     let text = fs::read_to_string(&rt, "shelf-test.txt")?;
     assert_eq!(rt; text.as_str(), "one two");
+    let part = shelf.open_in("shelf-test.txt").ok().ok_or("a source")?;
+    shelf.give_in("shelf-test.txt", sent(part));
+    let part = shelf.make_out("shelf-test.txt").ok().ok_or("a sink")?;
+    shelf.give_out("shelf-test.txt", sent(part));
     fs::remove_file(&rt, "shelf-test.txt")?;
     Ok(())
 }
 
 #[test]
 fn desks_stand_in_rounds(rt: HostRuntime) -> Result<(), Fail> {
-    let mut rounds: Rounds<u8, u8> = Rounds::new(rt.alloc());
+    let mut rounds: Rounds<u8, u8> = sent(Rounds::new(rt.alloc()));
     assert!(rt; rounds.round(0).is_none());
     assert!(rt; rounds.pop().is_none());
     for size in [2u8, 0, 1, 0] {

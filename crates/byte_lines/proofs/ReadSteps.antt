@@ -1,5 +1,5 @@
 -- A source that is read piece by piece.
-use Rattle.std.proofs.Common.{◌≡◌, ℕ, ◌+◌, ◌-◌, ◌≤◌, ◌<◌, List, [], ◌++◌, length, take, drop, Option, Some, None, refl, sym, ap, subst, ◌∙◌, take-add, length-append, length-drop, arith}
+use Rattle.std.proofs.Common.{◌≡◌, ℕ, ◌+◌, ◌≤◌, ◌<◌, List, [], ◌++◌, length, take, drop, Option, Some, None, sym, ap, subst, ◌∙◌, take-add, length-append, length-drop, arith}
 use Rattle.std.proofs.lemmas.List.{length-take, drop-drop, take_all}
 use Rattle.plan_schema.specs.Outside.{Gave, GaveFront}
 use Rattle.byte_lines.specs.ReadAll.{ReadFront, ReadWhole}

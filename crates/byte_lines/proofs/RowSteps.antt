@@ -1,5 +1,5 @@
 -- What stays where the slot of one name changes.
-use Rattle.std.proofs.Common.{◌≡◌, ◌≢◌, ℕ, List, Bool, true, false, refl, sym, ap, ◌∙◌, nat_eq}
+use Rattle.std.proofs.Common.{◌≡◌, ℕ, List, true, false, refl, sym, ap, ◌∙◌, nat_eq}
 use Rattle.std.specs.Cmp.Lexicographic.{pointwise, same_text, other_text}
 use Rattle.plan_schema.specs.Outside.{StaysBut}
 use Rattle.byte_lines.specs.declared.rows.Slot.{Slot}

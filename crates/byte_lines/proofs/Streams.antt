@@ -1,13 +1,9 @@
 -- Streams in pieces.
-use Rattle.std.proofs.Common.{◌≡◌, ℕ, ◌+◌, ◌-◌, ◌<◌, ◌≤◌, Bool, true, false, not, cond, nat_eq, nat_le, List, [], ◌∷◌, ◌++◌, length, take, Option, Some, None, refl, sym, ap, ◌∙◌, arith, append_assoc, length-append, append-nil, suc, zero, drop, nat_lt}
+use Rattle.std.proofs.Common.{◌≡◌, ◌≢◌, ℕ, ◌+◌, ◌-◌, ◌≤◌, Bool, true, false, not, cond, nat_eq, nat_le, List, [], ◌∷◌, ◌++◌, length, take, Option, Some, None, refl, sym, ap, ◌∙◌, arith, append_assoc, length-append, append-nil, suc, drop, nat_lt}
 use Rattle.std.proofs.lemmas.List.{length-take}
-use Rattle.std.specs.Prelude.{◌==◌}
-use Rattle.std.specs.List.{position_or_len}
+use Rattle.std.specs.Prelude.{◌==◌, position, map}
+use Rattle.std.specs.List.{position_or_len, slice_split, onto_first}
 use Rattle.std.proofs.lemmas.Bool.Decides.{nat_tests}
-use Rattle.std.specs.Prelude.{position}
-use Rattle.std.specs.Prelude.{if◌then◌else◌, map}
-use Rattle.std.specs.List.{slice_split, onto_first}
-use Rattle.std.proofs.lemmas.List.Splits.{slice_split-cons_yes, slice_split-cons_no}
 use Rattle.byte_lines.specs.Lines.{grown, line_of, IsKept, text_of_line, without_return, last_unless_empty, without_last_empty, lines_of, lines_from, lines_joined, lines_after, line_before, last_line}
 
 -- the lines of a stream in two pieces
@@ -137,6 +133,30 @@ unfolding lines_after
 lines_after-append kept a b =
     ap (λ (p : List (Option (List ℕ)) × Option (List ℕ)). p.0 ++ last_line p.1) (lines_from-append kept a b)
     ∙ append_assoc (lines_from kept a).0 (lines_from (lines_from kept a).1 b).0 (last_line (lines_from (lines_from kept a).1 b).1)
+
+-- the same after a feed that completed a line
+pub lines_after-complete : (old new : Option (List ℕ)) (piece later rest : List ℕ) → lines_from old piece ≡ line_before (line_of new) (lines_from (Some []) later)
+    → lines_after old (piece ++ rest) ≡ line_of new ∷ lines_after (Some []) (later ++ rest)
+lines_after-complete old new piece later rest e =
+    lines_after-append old piece rest
+    ∙ ap (λ (p : List (Option (List ℕ)) × Option (List ℕ)). p.0 ++ lines_after p.1 rest) e
+    ∙ ap (λ (lines : List (Option (List ℕ))). line_of new ∷ lines) (sym (lines_after-append (Some []) later rest))
+
+-- the same after a feed that completed none
+pub lines_after-begun : (old new : Option (List ℕ)) (piece rest : List ℕ) → lines_from old piece ≡ ([], new) → lines_after old (piece ++ rest) ≡ lines_after new rest
+lines_after-begun old new piece rest e =
+    lines_after-append old piece rest ∙ ap (λ (p : List (Option (List ℕ)) × Option (List ℕ)). p.0 ++ lines_after p.1 rest) e
+
+-- the end of a stream completes the line so far, where something came of it
+pub lines_after-end : (kept : Option (List ℕ)) → kept ≢ Some [] → lines_after kept [] ≡ line_of kept ∷ []
+unfolding lines_after lines_from line_of
+lines_after-end None some = refl
+lines_after-end (Some []) some = absurd (some refl)
+lines_after-end (Some (b ∷ bytes)) some = refl
+
+pub lines_after-no_bytes : lines_after (Some []) [] ≡ []
+unfolding lines_after lines_from
+lines_after-no_bytes = refl
 
 -- the pieces of a stream behind some first bytes
 abbrev prefixed : List ℕ → List (List ℕ) → List (List ℕ)

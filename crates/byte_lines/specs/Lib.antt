@@ -3,3 +3,6 @@ pub mod Lines
 pub mod Cuts
 pub mod ReadAll
 pub mod Rows
+pub mod Desks
+pub mod RoundLends
+pub mod RoundsLends

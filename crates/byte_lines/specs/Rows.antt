@@ -1,5 +1,5 @@
 -- What a shelf keeps for each name.
-use Rattle.std.specs.Prelude.{◌≡◌, ℕ, List, Option, Some, None, [], unwrap_or, if◌then◌else◌, nat_eq}
+use Rattle.std.specs.Prelude.{ℕ, List, None, [], unwrap_or, if◌then◌else◌, nat_eq}
 use Rattle.std.specs.Cmp.Lexicographic.{pointwise}
 use Rattle.byte_lines.specs.declared.rows.Slot.{Slot}
 use Rattle.byte_lines.specs.declared.rows.Rows.{Rows, End, Row'}

@@ -1,5 +1,5 @@
 //! Files and standard output. What these devices hold is outside every contract; how often they failed is counted.
-ghost use Rattle.std.specs.Prelude.{None, []};
+ghost use Rattle.std.specs.Prelude.{◌≡◌, None, [], List, ℕ};
 
 use crate::part::Part;
 use crate::rows::{Room, Rows};
@@ -80,12 +80,22 @@ pub struct FileShelf<'a, R: Files + Print> {
 
 impl<'a, R: Files + Print> FileShelf<'a, R> {
     /// The files of a runtime.
-    pub fn new(alloc: Global, runtime: &'a R) -> FileShelf<'a, R> {
+    pub fn new(alloc: Global, runtime: &'a R) -> FileShelf<'a, R>
+        ensures opens { (name : List ℕ) → ⟦<FileShelf<'a, R> as Shelf>⟧.open_faults result name ≡ 0 }
+        ensures reads { (name : List ℕ) → ⟦<FileShelf<'a, R> as Shelf>⟧.read_faults result name ≡ 0 }
+        ensures writes { (name : List ℕ) → ⟦<FileShelf<'a, R> as Shelf>⟧.write_faults result name ≡ 0 }
+    {
         FileShelf {
             rows: Rows::End,
             runtime,
             alloc,
         }
+    }
+
+    // How many calls to open or make a file failed.
+    #[cfg(test)]
+    pub(crate) fn open_faults(&self, name: &str) -> u64 {
+        self.rows.find(name).map_or(0, |slot| slot.open_faults)
     }
 
     // Opens a file to read it. The console can't be read.

@@ -9,6 +9,7 @@ mod memory_shelf;
 mod named_calls;
 mod part;
 mod reading;
+mod rounds;
 mod rows;
 mod steady;
 mod steady_shelf;
@@ -22,5 +23,9 @@ pub use named_calls::NamedCalls;
 pub use part::Part;
 pub use plan_schema::outside::{Failed, Shelf, ShelfFault, Sink, SinkFault, Source, write_all};
 pub use reading::{ReadAllFault, read_all};
+pub use rounds::{Desk, Rounds, Served};
 pub use steady::{SteadyIn, SteadyOut, steady_devices_count_no_fault};
 pub use steady_shelf::{SteadyShelf, steady_shelves_tell_and_count_no_fault};
+
+#[cfg(test)]
+mod tests;

@@ -18,7 +18,7 @@ pub(crate) struct Slot {
     pub(crate) write_faults: u64,
 }
 
-/// A slot for each name. A name with no row has an empty slot.
+/// A slot for each name. A name with no row has an empty slot. A look-up walks the rows, so they are for few names.
 #[derive(Drop)]
 pub(crate) enum Rows {
     End,

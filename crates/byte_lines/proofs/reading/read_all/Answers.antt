@@ -1,11 +1,10 @@
-use Rattle.std.proofs.Common.{◌≡◌, ℕ, ◌+◌, ◌-◌, ◌<◌, ◌≤◌, ◌∙◌, length, take, List, Option, Some, None, Result, Ok, Err, ap, sym, subst, arith, ◌++◌, length-append}
+use Rattle.std.proofs.Common.{◌≡◌, ℕ, ◌+◌, ◌-◌, ◌<◌, ◌≤◌, ◌∙◌, length, take, List, Result, Ok, Err, ap, sym, subst, arith, ◌++◌, length-append}
 use Rattle.std.specs.Prelude.{IsErrAnd}
 use Rattle.std.proofs.lemmas.List.{length-take}
-use Rattle.plan_schema.specs.Outside.{Rose, GaveFront}
 use Rattle.byte_lines.specs.declared.reading.ReadAllFault.{ReadAllFault}
-use Rattle.byte_lines.specs.declared.reading.ReadAllFault.TheVariants.{Memory, Failed, Large}
-use Rattle.byte_lines.specs.ReadAll.{ReadAll, ReadFront, ReadWhole}
-use Rattle.byte_lines.proofs.ReadSteps.{ReadSoFar, gave_front, gave_untold, read_whole, read_front, read_large, read_more}
+use Rattle.byte_lines.specs.declared.reading.ReadAllFault.TheVariants.{Memory}
+use Rattle.byte_lines.specs.ReadAll.{ReadAll}
+use Rattle.byte_lines.proofs.ReadSteps.{gave_front, gave_untold, read_whole, read_front, read_large, read_more}
 use Rattle.byte_lines.proofs.reading.read_all.Goals as goal
 
 pub returns-then-count-eq0 : goal.returns-then-count-eq0

@@ -1,4 +1,4 @@
-use Rattle.std.proofs.Common.{◌∙◌, ap, sym, ◌+◌, drop, ◌≡◌, length, ◌≤◌, Bool, true, false, cond, Option, Some, None, List, [], ℕ}
+use Rattle.std.proofs.Common.{◌∙◌, ap, sym, ◌+◌, drop, length, ◌≤◌, Bool, true, false, cond, Option, Some, None, List, [], ℕ}
 use Rattle.byte_lines.specs.Lines.{line_before, line_of, lines_from, IsKept}
 use Rattle.byte_lines.proofs.Streams.{lines_from-found, lines_from-not_found}
 use Rattle.byte_lines.proofs.cutter.Cutter.feed.Goals as goal

@@ -1,12 +1,12 @@
 -- The least name of those that pass a test.
 use Rattle.std.proofs.Common.{◌≡◌, inl, inr, List, [], ◌∷◌, refl, sym, ◌∙◌, ap, subst, Bool, true, false, cond}
 use Rattle.std.specs.Prelude.{Option, Some, None, fold, filter}
-use Rattle.std.specs.List.{AllByRecursion, Contains}
-use Rattle.std.specs.Ordering.{nat_cmp, is_lt, ordering_reverse}
+use Rattle.std.specs.List.{AllByRecursion}
+use Rattle.std.specs.Ordering.{is_lt, ordering_reverse}
 use Rattle.std.specs.declared.cmp.Ordering.{Ordering}
 use Rattle.std.specs.declared.cmp.Ordering.TheVariants.{Less, Equal, Greater}
 use Rattle.std.specs.Cmp.{IsTotalOrder, tied_itself}
-use Rattle.std.specs.Cmp.Lexicographic.{slice_cmp, nat_list_cmp_total}
+use Rattle.std.specs.Cmp.Lexicographic.{nat_list_cmp_total}
 use Rattle.plan_schema.specs.declared.name.Name.{Name}
 use Rattle.plan_schema.specs.Key.{name_cmp}
 use Rattle.planning_rules.specs.Refused.{earlier, least_name}

@@ -1,6 +1,5 @@
 -- The least balance is the greatest promise.
-use Rattle.std.proofs.Common.{◌≡◌, ℕ, ◌<◌, ◌≤◌, List, [], ◌∷◌, length, arith, min, le_refl}
-use Rattle.std.specs.List.{AllByRecursion}
+use Rattle.std.proofs.Common.{ℕ, ◌<◌, ◌≤◌, List, [], ◌∷◌, length, arith, min, le_refl}
 use Rattle.planning_rules.specs.Promise.{CanPromise, least_of}
 use Rattle.planning_rules.specs.Laws.{LeastIsPromise}
 

@@ -11,8 +11,8 @@ use Rattle.plan_schema.specs.Contents.{Contents, record_at}
 use Rattle.plan_schema.specs.Refusals.{first_of, where_so, about}
 use Rattle.planning_rules.specs.Bills.{parents, all_parents, is_above, is_ancestor, longest_chain, level}
 use Rattle.planning_rules.specs.Plan.{plan}
-use Rattle.planning_rules.specs.Refused.{least_name, in_reach, is_cyclic, is_part, lacks_calendar, is_large, level_refusal, plan_refusal}
-use Rattle.planning_rules.specs.Laws.{IsLeastOf, CyclicIsNoLevel, LevelIsRefused, says_cyclic, reach_is_whole, PlanIsCyclic}
+use Rattle.planning_rules.specs.Refused.{least_name, in_reach, is_cyclic, is_part, lacks_calendar, is_large, plan_refusal}
+use Rattle.planning_rules.specs.Laws.{CyclicIsNoLevel, LevelIsRefused, says_cyclic, PlanIsCyclic}
 use Rattle.planning_rules.proofs.Membership.{IsIn, any_in, which, either, in_first, in_second, in_one, in_kept, kept_in}
 use Rattle.planning_rules.proofs.Parents.{in_all}
 use Rattle.planning_rules.proofs.LevelLaws.{no_level_is_cyclic, cyclic_has_no_level, one_name}

@@ -19,7 +19,7 @@ above_stays : (c : Contents) (a : Name) (k : ℕ) (n : Name) → is_above k c n 
 above_stays c a zero n h = cc
 above_stays c a (suc k) n h =
     any_more (λ p. name_eq p a || is_above k c p a) (λ p. name_eq p a || is_above (suc k) c p a)
-      (λ p o. or_more (name_eq p a) (is_above k c p a) (name_eq p a) (is_above (suc k) c p a) (λ same. same) (above_stays c a k p) o) (parents c n) h
+    (λ p o. or_more (name_eq p a) (is_above k c p a) (name_eq p a) (is_above (suc k) c p a) (λ same. same) (above_stays c a k p) o) (parents c n) h
 
 abbrev IsSettled : Contents → Name → ℕ → Type 0
 IsSettled c a k = AllByRecursion (λ p. is_above k c p a ≡ is_above (suc k) c p a) (all_parents c)
@@ -27,26 +27,28 @@ IsSettled c a k = AllByRecursion (λ p. is_above k c p a ≡ is_above (suc k) c 
 above_next : (c : Contents) (a : Name) (k : ℕ) → IsSettled c a k → (n : Name) → is_above (suc k) c n a ≡ is_above (suc (suc k)) c n a
 above_next c a k s n =
     any_same (λ p. name_eq p a || is_above k c p a) (λ p. name_eq p a || is_above (suc k) c p a) (bills_of c n)
-      (each_parent (λ p. (name_eq p a || is_above k c p a) ≡ (name_eq p a || is_above (suc k) c p a)) n c
-        (all_map (λ p. is_above k c p a ≡ is_above (suc k) c p a) (λ p. (name_eq p a || is_above k c p a) ≡ (name_eq p a || is_above (suc k) c p a)) (λ p e. ap (λ b. name_eq p a || b) e) (all_parents c) s))
+    (each_parent (λ p. (name_eq p a || is_above k c p a) ≡ (name_eq p a || is_above (suc k) c p a)) n c
+    (all_map (λ p. is_above k c p a ≡ is_above (suc k) c p a) (λ p. (name_eq p a || is_above k c p a) ≡ (name_eq p a || is_above (suc k) c p a)) (λ p e. ap (λ b. name_eq p a || b) e) (all_parents c) s))
 
 progress : (c : Contents) (a : Name) (k : ℕ) → IsSettled c a k ⊎ (k ≤ passing (λ n. is_above k c n a) (all_parents c))
 progress c a zero = inr (omega arith)
 progress c a (suc k) =
     elim (progress c a k) [
-      inl s ↦ inl (everywhere _ (above_next c a k s) (all_parents c))
+      | inl s ↦ inl (everywhere _ (above_next c a k s) (all_parents c))
       | inr many ↦ elim (cases_lt (passing (λ n. is_above k c n a) (all_parents c)) (passing (λ n. is_above (suc k) c n a) (all_parents c))) [
-          inl more ↦ inr (omega arith)
-          | inr same ↦
+        | inl more ↦ inr (omega arith)
+        | inr same ↦
             let so : IsSettled c a k = passing_same (λ n. is_above k c n a) (λ n. is_above (suc k) c n a) (above_stays c a k) (all_parents c) same in
-            inl (everywhere _ (above_next c a k so) (all_parents c)) ]
+            inl (everywhere _ (above_next c a k so) (all_parents c))
+      ]
     ]
 
 settled : (c : Contents) (a : Name) → IsSettled c a (suc (length c))
 settled c a =
     elim (progress c a (suc (length c))) [
-      inl s ↦ s
-      | inr many ↦ let most = passing_most (λ n. is_above (suc (length c)) c n a) (all_parents c) in let few = few_parents c in absurd (omega arith) ]
+      | inl s ↦ s
+      | inr many ↦ let most = passing_most (λ n. is_above (suc (length c)) c n a) (all_parents c) in let few = few_parents c in absurd (omega arith)
+    ]
 
 settled_after : (c : Contents) (a : Name) (j m : ℕ) → m ≡ j + suc (length c) → IsSettled c a m
 settled_after c a zero m e = subst (IsSettled c a) (let z : suc (length c) ≡ m = omega arith in z) (settled c a)
@@ -63,8 +65,8 @@ chains_are_short c n a zero h = cc
 chains_are_short c n a (suc zero) h = above_up c n a (suc (length c)) 1 (suc (suc (length c))) (omega arith) h
 chains_are_short c n a (suc (suc k)) h =
     elim (cases_lt k (suc (length c))) [
-      inl fewer ↦ above_up c n a (length c - k) (suc (suc k)) (suc (suc (length c))) (omega arith) h
+      | inl fewer ↦ above_up c n a (length c - k) (suc (suc k)) (suc (suc (length c))) (omega arith) h
       | inr more ↦
-        let same : is_above (suc k) c n a ≡ is_above (suc (suc k)) c n a = above_next c a k (settled_after c a (k - suc (length c)) k (omega arith)) n in
-        chains_are_short c n a (suc k) (same ∙ h)
+          let same : is_above (suc k) c n a ≡ is_above (suc (suc k)) c n a = above_next c a k (settled_after c a (k - suc (length c)) k (omega arith)) n in
+          chains_are_short c n a (suc k) (same ∙ h)
     ]

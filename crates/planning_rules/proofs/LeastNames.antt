@@ -52,14 +52,19 @@ fold_is_first m (n ∷ ns) = by_cases (fold_is_first n ns) (fold_is_first m ns) 
   where
     by_cases : IsFirst n ns (fold earlier (Some n) ns) → IsFirst m ns (fold earlier (Some m) ns) → (b : Bool) → is_lt (name_cmp n m) ≡ b → IsFirst m (n ∷ ns) (fold earlier (cond b (Some n) (Some m)) ns)
     by_cases w _ true e = record {
-      name = w.name; is = w.is; among = inr w.among;
+      name = w.name;
+      is = w.is;
+      among = inr w.among;
       first = not_before nat_list_cmp_total w.name n m w.first (one_way nat_list_cmp_total n m e);
-      others = (w.first, w.others) }
+      others = (w.first, w.others);
+    }
     by_cases _ w false e = record {
-      name = w.name; is = w.is;
+      name = w.name;
+      is = w.is;
       among = elim w.among as (λ _. IsIn w.name (m ∷ n ∷ ns)) [ inl same ↦ inl same | inr i ↦ inr (inr i) ];
       first = w.first;
-      others = (not_before nat_list_cmp_total w.name m n w.first e, w.others) }
+      others = (not_before nat_list_cmp_total w.name m n w.first e, w.others);
+    }
 
 fails_all : (test : Name → Bool) (names : List Name) → filter test names ≡ [] → (n : Name) → IsIn n names → test n ≡ false
 fails_all test names e n i = by_cases (test n) refl
@@ -67,6 +72,7 @@ fails_all test names e n i = by_cases (test n) refl
     none : (ns : List Name) → ns ≡ [] → IsIn n ns → test n ≡ false
     none [] e i = absurd i
     none (m ∷ ms) e i = cc
+
     by_cases : (b : Bool) → test n ≡ b → test n ≡ false
     by_cases true h = none (filter test names) e (in_kept test n names i h)
     by_cases false h = h
@@ -77,8 +83,10 @@ least_among test names (m ∷ ms) e =
     let w = fold_is_first m ms in
     let among = kept_in test w.name names (subst (IsIn w.name) (sym e) w.among) in
     let least : IsLeastPassing test names w.name = record {
-      among = contained_in names w.name among.0; passes = among.1;
-      first = λ n i h. all_at (λ k. is_lt (name_cmp k w.name) ≡ false) n (m ∷ ms) (subst (IsIn n) e (in_kept test n names (in_contained names n i) h)) (w.first, w.others) } in
+      among = contained_in names w.name among.0;
+      passes = among.1;
+      first = λ n i h. all_at (λ k. is_lt (name_cmp k w.name) ≡ false) n (m ∷ ms) (subst (IsIn n) e (in_kept test n names (in_contained names n i) h)) (w.first, w.others);
+    } in
     subst (IsLeastOf test names) (sym w.is) least
 
 pub least_name_is_least : LeastNameIsLeast

@@ -55,9 +55,11 @@ none_in f (p ∷ ps) h = by_cases (none_in f ps) (f p) refl h
   where
     later : (p : Name) × IsIn p ps × (f p ≡ None) → (q : Name) × IsIn q (p ∷ ps) × (f q ≡ None)
     later w = (w.0, inr w.1, w.2)
+
     rest_none : (l : ℕ) (o : Option ℕ) → cond (is_some o) (Some (max (suc l) (unwrap_or o 0))) None ≡ None → o ≡ None
     rest_none l None e = refl
     rest_none l (Some m) e = cc
+
     by_cases : (above_all (map f ps) ≡ None → (q : Name) × IsIn q ps × (f q ≡ None)) → (o : Option ℕ) → f p ≡ o → above_all (o ∷ map f ps) ≡ None → (q : Name) × IsIn q (p ∷ ps) × (f q ≡ None)
     by_cases again None e h = (p, inl refl, e)
     by_cases again (Some l) e h = later (again (rest_none l (above_all (map f ps)) h))
@@ -135,7 +137,7 @@ lower c a (suc k) n l h e =
     let w = which (λ p. name_eq p a || is_above k c p a) (parents c n) h in
     let low = below_all (level c) w.0 (parents c n) w.1 l (sym (level_is_step c n) ∙ e) in
     elim (either (name_eq w.0 a) (is_above k c w.0 a) w.2) [
-      inl same ↦ (low.0, ap (level c) (sym (one_name w.0 a same)) ∙ low.1, low.2)
+      | inl same ↦ (low.0, ap (level c) (sym (one_name w.0 a same)) ∙ low.1, low.2)
       | inr more ↦ let lowest = lower c a k w.0 low.0 more low.1 in (lowest.0, lowest.1, omega (arith, low.2, lowest.2))
     ]
 

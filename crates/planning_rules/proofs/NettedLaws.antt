@@ -39,14 +39,14 @@ netted_unique x p q n m =
 -- one more order
 pub netted_push : (x : Input) (t : ℕ) (p : List ℕ) (a : ℕ) → NettedTo x t p → IsOrder x (sum p) t a → NettedTo x (t + 1) (p ++ a ∷ [])
 netted_push x t p a n o = record {
-    whole = length-append p (a ∷ []) ∙ omega (arith, n.whole);
-    each = below_more (λ u. IsOrder x (sum (take u (p ++ a ∷ []))) u (get_or (p ++ a ∷ []) u 0)) t
+  whole = length-append p (a ∷ []) ∙ omega (arith, n.whole);
+  each = below_more (λ u. IsOrder x (sum (take u (p ++ a ∷ []))) u (get_or (p ++ a ∷ []) u 0)) t
       (λ u h. let short : u < length p = omega (arith, n.whole) in
-        let le : u ≤ length p = omega arith in
-        rw (take-append-le u p (a ∷ []) le, get_or_append_left p (a ∷ []) 0 u short) (n.each u h))
+      let le : u ≤ length p = omega arith in
+      rw (take-append-le u p (a ∷ []) le, get_or_append_left p (a ∷ []) 0 u short) (n.each u h))
       (subst (λ k. IsOrder x (sum (take k (p ++ a ∷ []))) k (get_or (p ++ a ∷ []) k 0)) n.whole
-        (rw (take-append_seam p (a ∷ []), get_or-append_seam p a [] 0) (subst (λ k. IsOrder x (sum p) k a) (sym n.whole) o)));
-  }
+      (rw (take-append_seam p (a ∷ []), get_or-append_seam p a [] 0) (subst (λ k. IsOrder x (sum p) k a) (sym n.whole) o)));
+}
 
 -- rounding up -----------------------------------------------------------------
 
@@ -61,7 +61,7 @@ pub rounded_is_least : (q s n : ℕ) → 1 ≤ q → s ≤ n * q → rounded_up 
 rounded_is_least q s n h e =
     let whole : q * ((s + (q - 1)) / q) + (s + (q - 1)) % q ≡ s + (q - 1) = omega arith in
     elim (cases_lt n ((s + (q - 1)) / q)) [
-      inl more ↦ let times : q * (n + 1) ≤ q * ((s + (q - 1)) / q) = mul-le-mul_left q (omega arith) in absurd (omega arith)
+      | inl more ↦ let times : q * (n + 1) ≤ q * ((s + (q - 1)) / q) = mul-le-mul_left q (omega arith) in absurd (omega arith)
       | inr fewer ↦ let times : q * ((s + (q - 1)) / q) ≤ q * n = mul-le-mul_left q fewer in omega arith
     ]
 
@@ -89,11 +89,11 @@ amount_is (lot.Period p) short after h = (greatest_is_enough (take p (short ∷ 
 order_is : (x : Input) (made t : ℕ) → HasStep x.lot → IsOrder x made t (order_on x made t)
 order_is x made t h =
     elim (eq-zero-or-pos (short_on x made t)) [
-      inl e ↦ record { kept = λ _. rw e refl; short = λ more. absurd (omega arith) }
+      | inl e ↦ record { kept = λ _. rw e refl; short = λ more. absurd (omega arith) }
       | inr more ↦ record {
-          kept = λ e. absurd (omega arith);
-          short = λ _. rw (not_zero (short_on x made t) more) (amount_is x.lot (short_on x made t) (later x made t) h);
-        }
+        kept = λ e. absurd (omega arith);
+        short = λ _. rw (not_zero (short_on x made t) more) (amount_is x.lot (short_on x made t) (later x made t) h);
+      }
     ]
   where
     not_zero : (n : ℕ) → 0 < n → (n == 0) ≡ false

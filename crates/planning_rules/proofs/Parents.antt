@@ -16,7 +16,9 @@ bill_parent : (n : Name) (row : Key × Record) → (bill_in n row ≡ None) ⊎ 
 bill_parent n (keys.Bill p m, records.Bill per span) =
     let one : ParentBill = record { parent = p; per = per; span = span } in
     elim (name_eq m n) as (λ t. (cond t (Some one) None ≡ None) ⊎ ((bill : ParentBill) × (cond t (Some one) None ≡ Some bill) × (Some p ≡ Some bill.parent))) [
-      true ↦ inr (one, refl, refl) | false ↦ inl refl ]
+      | true ↦ inr (one, refl, refl)
+      | false ↦ inl refl
+    ]
 bill_parent n _ = inl refl
 
 drop_parent : (Q : Name → Type 0) (o : Option Name) (ps : List Name) → AllByRecursion Q (cons_option o ps) → AllByRecursion Q ps
@@ -28,10 +30,10 @@ pub each_parent : (Q : Name → Type 0) (n : Name) (c : Contents) → AllByRecur
 each_parent Q n [] h = tt
 each_parent Q n (row ∷ rows) h =
     elim (bill_parent n row) [
-      inl none ↦ subst (λ o. AllByRecursion (λ bill. Q bill.parent) (cons_option o (bills_of rows n))) (sym none) (each_parent Q n rows (drop_parent Q (parent_in row) (all_parents rows) h))
+      | inl none ↦ subst (λ o. AllByRecursion (λ bill. Q bill.parent) (cons_option o (bills_of rows n))) (sym none) (each_parent Q n rows (drop_parent Q (parent_in row) (all_parents rows) h))
       | inr some ↦
-        let here = subst (λ o. AllByRecursion Q (cons_option o (all_parents rows))) some.2 h in
-        subst (λ o. AllByRecursion (λ bill. Q bill.parent) (cons_option o (bills_of rows n))) (sym some.1) (here.0, each_parent Q n rows here.1)
+          let here = subst (λ o. AllByRecursion Q (cons_option o (all_parents rows))) some.2 h in
+          subst (λ o. AllByRecursion (λ bill. Q bill.parent) (cons_option o (bills_of rows n))) (sym some.1) (here.0, each_parent Q n rows here.1)
     ]
 
 pub few_parents : (c : Contents) → length (all_parents c) ≤ length c

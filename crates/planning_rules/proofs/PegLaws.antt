@@ -24,4 +24,4 @@ above_zero_sums peg is (pair ∷ pairs) = by_cases (above_zero_sums peg is pairs
 pub pegs_are_gross : PegsAreGross
 pegs_are_gross plans c n t =
     sum_by-append peg_qty (map (λ pair. FromDemand pair.0 pair.1) (above_zero (demands_on c n t))) (map (λ pair. FromParent pair.0 pair.1) (above_zero (asked_by_parents plans c n t)))
-      ∙ λ i. above_zero_sums FromDemand (λ _ _. refl) (demands_on c n t) i + above_zero_sums FromParent (λ _ _. refl) (asked_by_parents plans c n t) i
+    ∙ λ i. above_zero_sums FromDemand (λ _ _. refl) (demands_on c n t) i + above_zero_sums FromParent (λ _ _. refl) (asked_by_parents plans c n t) i

@@ -34,7 +34,7 @@ outcomes_same f g (bill ∷ bills) h = λ i. has_outcome (h.0 i) && outcomes_sam
 pub step_local : (f g : Name → Option Known) (c : Contents) (n : Name) → AllByRecursion (λ bill. f bill.parent ≡ g bill.parent) (bills_of c n) → plan_step f c n ≡ plan_step g c n
 step_local f g c n h =
     let gross : gross_of f c n ≡ gross_of g c n =
-      map_same (gross_on f c n) (gross_on g c n) (λ t. ap (λ pairs. total (demands_on c n t) + total pairs) (asked_same f g (start_of c) t (bills_of c n) h)) (range_with_len 0 (days_of c)) in
+    map_same (gross_on f c n) (gross_on g c n) (λ t. ap (λ pairs. total (demands_on c n t) + total pairs) (asked_same f g (start_of c) t (bills_of c n) h)) (range_with_len 0 (days_of c)) in
     λ i. cond (outcomes_same f g (bills_of c n) h i) (known_from (input_of c n (gross i) (record_at c (keys.Part n)))) None
 
 -- a plan that is there stays

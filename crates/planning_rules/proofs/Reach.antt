@@ -24,8 +24,9 @@ ancestor_in c a zero n h = cc
 ancestor_in c a (suc steps) n h =
     let w = which (λ p. name_eq p a || is_above steps c p a) (parents c n) h in
     elim (either (name_eq w.0 a) (is_above steps c w.0 a) w.2) [
-      inl same ↦ subst (λ p. IsIn p (all_parents c)) (one_name w.0 a same) (in_all c n w.0 w.1)
-      | inr more ↦ ancestor_in c a steps w.0 more ]
+      | inl same ↦ subst (λ p. IsIn p (all_parents c)) (one_name w.0 a same) (in_all c n w.0 w.1)
+      | inr more ↦ ancestor_in c a steps w.0 more
+    ]
 
 none_tells : {A : Type 0} (o : Option A) → is_none o ≡ true → o ≡ None
 none_tells None h = refl
@@ -52,11 +53,11 @@ no_level_there c asked h =
     let y = least.0 in
     let found = found_passes (is_cyclic c) (in_reach c asked) y least.1 in
     elim (in_one y asked (filter (λ a. list_any (λ n. is_ancestor c n a) asked) (all_parents c)) found.0) [
-      inl i ↦ any_in (λ n. is_none (level c n)) y asked i (ap is_none (cyclic_has_no_level c y y found.1 found.1))
+      | inl i ↦ any_in (λ n. is_none (level c n)) y asked i (ap is_none (cyclic_has_no_level c y y found.1 found.1))
       | inr i ↦
-        let kept = kept_in (λ a. list_any (λ n. is_ancestor c n a) asked) y (all_parents c) i in
-        let below = which (λ n. is_ancestor c n y) asked kept.1 in
-        any_in (λ n. is_none (level c n)) below.0 asked below.1 (ap is_none (cyclic_has_no_level c below.0 y below.2 found.1))
+          let kept = kept_in (λ a. list_any (λ n. is_ancestor c n a) asked) y (all_parents c) i in
+          let below = which (λ n. is_ancestor c n y) asked kept.1 in
+          any_in (λ n. is_none (level c n)) below.0 asked below.1 (ap is_none (cyclic_has_no_level c below.0 y below.2 found.1))
     ]
 
 cycle_there : (c : Contents) (asked : List Name) → lacks_level c asked ≡ true → cycle_found c asked ≡ true
@@ -65,7 +66,7 @@ cycle_there c asked h =
     let cycle = no_level_is_cyclic c bare.0 (none_tells (level c bare.0) bare.2) in
     let y = cycle.0 in
     let reached = in_kept (λ a. list_any (λ n. is_ancestor c n a) asked) y (all_parents c) (ancestor_in c y (longest_chain c) bare.0 cycle.1)
-      (any_in (λ n. is_ancestor c n y) bare.0 asked bare.1 cycle.1) in
+    (any_in (λ n. is_ancestor c n y) bare.0 asked bare.1 cycle.1) in
     let least = least_found (is_cyclic c) (in_reach c asked) y (in_second y asked (filter (λ a. list_any (λ n. is_ancestor c n a) asked) (all_parents c)) reached) cycle.2 in
     ap is_some least.1
 
@@ -85,7 +86,7 @@ or_none false = refl
 pub level_is_refused : LevelIsRefused
 level_is_refused c n =
     first_of_two (is_part c n) (refusals.NoPart n) (least_name (is_cyclic c) (in_reach c (n ∷ [])))
-      ∙ ap (λ b. not (is_part c n) || b) (cyclic_is_no_level c (n ∷ []) ∙ or_none (is_none (level c n)))
+    ∙ ap (λ b. not (is_part c n) || b) (cyclic_is_no_level c (n ∷ []) ∙ or_none (is_none (level c n)))
 
 -- a plan is refused `cyclic` where no refusal before it applies, and the one after it doesn't matter
 none_passes : (test : Name → Bool) (names : List Name) → ((n : Name) → IsIn n names → test n ≡ false) → least_name test names ≡ None
@@ -124,13 +125,13 @@ large_says (Some n) = refl
 pub plan_is_cyclic : PlanIsCyclic
 plan_is_cyclic c asked whole =
     let each = λ (n : Name) (i : IsIn n (in_reach c asked)).
-      whole_part (is_part c n) (lacks_calendar c (record_at c (keys.Part n))) (all_pass (λ m. is_part c m && not (lacks_calendar c (record_at c (keys.Part m)))) (in_reach c asked) whole n i) in
+    whole_part (is_part c n) (lacks_calendar c (record_at c (keys.Part n))) (all_pass (λ m. is_part c m && not (lacks_calendar c (record_at c (keys.Part m)))) (in_reach c asked) whole n i) in
     let asked_parts : least_name (λ n. not (is_part c n)) asked ≡ None = none_passes (λ n. not (is_part c n)) asked (λ n i. (each n (in_first n asked _ i)).0) in
     let parts : least_name (λ n. not (is_part c n)) (in_reach c asked) ≡ None = none_passes (λ n. not (is_part c n)) (in_reach c asked) (λ n i. (each n i).0) in
     let calendars : least_name (λ n. lacks_calendar c (record_at c (keys.Part n))) (in_reach c asked) ≡ None =
-      none_passes (λ n. lacks_calendar c (record_at c (keys.Part n))) (in_reach c asked) (λ n i. (each n i).1) in
+    none_passes (λ n. lacks_calendar c (record_at c (keys.Part n))) (in_reach c asked) (λ n i. (each n i).1) in
     let rest : Option Refusal = about (least_name (λ n. is_large (plan c n)) (in_reach c asked)) refusals.TooLarge in
     let first : plan_refusal c asked ≡ first_of (about (least_name (is_cyclic c) (in_reach c asked)) refusals.Cyclic ∷ rest ∷ []) =
-      λ i. first_of (about (asked_parts i) refusals.NoPart ∷ about (parts i) refusals.MissingPart ∷ about (calendars i) refusals.MissingCalendar
-        ∷ about (least_name (is_cyclic c) (in_reach c asked)) refusals.Cyclic ∷ rest ∷ []) in
+    λ i. first_of (about (asked_parts i) refusals.NoPart ∷ about (parts i) refusals.MissingPart ∷ about (calendars i) refusals.MissingCalendar
+    ∷ about (least_name (is_cyclic c) (in_reach c asked)) refusals.Cyclic ∷ rest ∷ []) in
     ap says_cyclic first ∙ told (least_name (is_cyclic c) (in_reach c asked)) rest (large_says (least_name (λ n. is_large (plan c n)) (in_reach c asked))) ∙ cyclic_is_no_level c asked

@@ -32,16 +32,18 @@ module _ {V : Type 0} (f : ℕ → Name → Option V) (c : Contents)
   settling zero = inr (omega arith)
   settling (suc k) =
       elim (settling k) [
-        inl s ↦ inl (everywhere _ (next k s) (all_parents c))
+        | inl s ↦ inl (everywhere _ (next k s) (all_parents c))
         | inr many ↦ elim (cases_lt (passing (λ n. is_some (f k n)) (all_parents c)) (passing (λ n. is_some (f (suc k) n)) (all_parents c))) [
-            inl more ↦ inr (omega arith)
-            | inr same ↦
+          | inl more ↦ inr (omega arith)
+          | inr same ↦
               let so : IsSettledAt f c k = values_same k (all_parents c) (passing_same (λ n. is_some (f k n)) (λ n. is_some (f (suc k) n)) (λ n h. ap is_some (stays k n h) ∙ h) (all_parents c) same) in
-              inl (everywhere _ (next k so) (all_parents c)) ]
+              inl (everywhere _ (next k so) (all_parents c))
+        ]
       ]
 
   pub settled_in_time : IsSettledAt f c (suc (length c))
   settled_in_time =
       elim (settling (suc (length c))) [
-        inl s ↦ s
-        | inr many ↦ let most = passing_most (λ n. is_some (f (suc (length c)) n)) (all_parents c) in let few = few_parents c in absurd (omega arith) ]
+        | inl s ↦ s
+        | inr many ↦ let most = passing_most (λ n. is_some (f (suc (length c)) n)) (all_parents c) in let few = few_parents c in absurd (omega arith)
+      ]

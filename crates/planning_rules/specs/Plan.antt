@@ -96,8 +96,14 @@ has_calendar c (Some name) = is_some (record_at c (keys.Cal name))
 abbrev pub input_of : Contents → Name → List ℕ → Option Record → Option Input
 input_of c n gross (Some (records.Part lead lot safety calendar)) =
     if has_calendar c calendar then Some (record {
-      stock = stock_in (record_at c (keys.Stock n)); safety = safety; lot = lot; lead = lead; calendar = works c calendar;
-      gross = gross; sched = sched_of c n }) else None
+      stock = stock_in (record_at c (keys.Stock n));
+      safety = safety;
+      lot = lot;
+      lead = lead;
+      calendar = works c calendar;
+      gross = gross;
+      sched = sched_of c n;
+    }) else None
 input_of c n gross _ = None
 
 -- what comes of a step

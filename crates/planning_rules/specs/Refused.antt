@@ -46,11 +46,11 @@ is_large _ = false
 abbrev pub plan_refusal : Contents → List Name → Option Refusal
 plan_refusal c asked =
     first_of (about (least_name (λ n. not (is_part c n)) asked) refusals.NoPart
-      ∷ about (least_name (λ n. not (is_part c n)) (in_reach c asked)) refusals.MissingPart
-      ∷ about (least_name (λ n. lacks_calendar c (record_at c (keys.Part n))) (in_reach c asked)) refusals.MissingCalendar
-      ∷ about (least_name (is_cyclic c) (in_reach c asked)) refusals.Cyclic
-      ∷ about (least_name (λ n. is_large (plan c n)) (in_reach c asked)) refusals.TooLarge
-      ∷ [])
+    ∷ about (least_name (λ n. not (is_part c n)) (in_reach c asked)) refusals.MissingPart
+    ∷ about (least_name (λ n. lacks_calendar c (record_at c (keys.Part n))) (in_reach c asked)) refusals.MissingCalendar
+    ∷ about (least_name (is_cyclic c) (in_reach c asked)) refusals.Cyclic
+    ∷ about (least_name (λ n. is_large (plan c n)) (in_reach c asked)) refusals.TooLarge
+    ∷ [])
 
 -- a level is refused where the asked name is no part, or a name in reach is its own ancestor
 abbrev pub level_refusal : Contents → Name → Option Refusal

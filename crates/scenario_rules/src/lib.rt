@@ -1,0 +1,2 @@
+//! The rules of branching scenarios, as definitions that compute, and what holds of them.
+#![tactic(auto)]

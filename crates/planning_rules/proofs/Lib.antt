@@ -10,3 +10,4 @@ pub mod LeastNames
 pub mod Reach
 pub mod PegLaws
 pub mod PromiseLaws
+pub mod Worked

@@ -1,5 +1,5 @@
 -- The worlds of legal histories are whole.
-use Rattle.std.proofs.Common.{◌≡◌, ℕ, zero, suc, List, [], ◌∷◌, ◌++◌, refl, sym, ◌∙◌, subst, Bool, true, false, cond, ◌&&◌, append_assoc, append-nil}
+use Rattle.std.proofs.Common.{◌≡◌, ℕ, zero, suc, List, [], ◌∷◌, ◌++◌, refl, sym, ◌∙◌, subst, Bool, true, false, cond, ◌&&◌, append_assoc, append-nil, arith}
 use Rattle.std.specs.Prelude.{Option, Some, None, IfSome, slice_get, take, nat_le}
 use Rattle.std.proofs.lemmas.List.Sums.{fold-append}
 use Rattle.plan_schema.specs.declared.name.Name.{Name}
@@ -12,7 +12,7 @@ use Rattle.plan_schema.specs.Refusals.{first_of}
 use Rattle.scenario_rules.specs.World.{Scenario, is_root, root_with, begin_with}
 use Rattle.scenario_rules.specs.Steps.{step, world_after}
 use Rattle.scenario_rules.specs.Refused.{scenario_refusal, full_journal, refused}
-use Rattle.scenario_rules.specs.Whole.{AreWholeContents, IsWholeScenario, HasParent, IsWhole}
+use Rattle.scenario_rules.specs.Whole.{AreWholeContents, AreWithinLimits, IsWholeScenario, HasParent, IsWhole}
 use Rattle.scenario_rules.specs.Laws.{RefusedIsAbsent, LegalIsWhole}
 use Rattle.scenario_rules.proofs.Wholeness.{same_scenario}
 use Rattle.scenario_rules.proofs.StepLaws.{clash, step_keeps_whole}
@@ -27,16 +27,17 @@ refused_is_absent base history k entry refusal legal h e =
     no_such wrong = cc
 
 -- the root alone
-begin_whole : (base : Contents) → AreWholeContents base → IsWhole (begin_with base)
-begin_whole base whole = record {
+begin_whole : (base : Contents) → AreWholeContents base → AreWithinLimits base → IsWhole (begin_with base)
+begin_whole base whole limits = record {
   ordered = refl;
+  few = omega arith;
   rooted = (base, refl);
   each = λ s x e. each_is s x (is_root s) e;
   parents = λ s x e other. no_other s x (is_root s) e other;
 }
   where
     it : IsWholeScenario (root_with base)
-    it = record { base = whole; own = record { ordered = refl; sound = refl } }
+    it = record { base = whole; own = record { ordered = refl; sound = refl }; limits = limits }
 
     each_is : (s : Name) (x : Scenario) (t : Bool) → cond t (Some (root_with base)) None ≡ Some x → IsWholeScenario x
     each_is s x true e = subst IsWholeScenario (same_scenario (root_with base) x e) it
@@ -89,7 +90,7 @@ rest_whole base before (entry ∷ rest) whole next =
     (λ k. subst (λ h. IfSome (slice_get rest k) (IsNext base h)) (sym (append_assoc before (entry ∷ []) (take k rest))) (next (suc k))))
 
 pub legal_is_whole : LegalIsWhole
-legal_is_whole base history whole legal = rest_whole base [] history (begin_whole base whole) (λ k. both (slice_get history k) (take k history) (legal.sound k) (legal.accepted k))
+legal_is_whole base history whole limits legal = rest_whole base [] history (begin_whole base whole limits) (λ k. both (slice_get history k) (take k history) (legal.sound k) (legal.accepted k))
   where
     both : (o : Option Entry) (before : List Entry) → IfSome o (λ entry. is_sound_entry entry ≡ true) → IfSome o (λ entry. refused base before entry.user entry.change ≡ None) → IfSome o (IsNext base before)
     both None before s a = tt

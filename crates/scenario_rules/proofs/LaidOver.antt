@@ -1,6 +1,6 @@
 -- What shows of contents with changes laid over them, and that they stay whole.
-use Rattle.std.proofs.Common.{◌≡◌, List, [], ◌∷◌, refl, sym, ◌∙◌, ap, Bool, true, false, cond, ◌&&◌}
-use Rattle.std.specs.Prelude.{Option, Some, None, unwrap_or}
+use Rattle.std.proofs.Common.{◌≡◌, List, [], ◌∷◌, refl, sym, ◌∙◌, ap, Bool, true, false, cond, ◌&&◌, subst}
+use Rattle.std.specs.Prelude.{Option, Some, None, unwrap_or, IsSome}
 use Rattle.std.specs.List.{list_all}
 use Rattle.std.specs.Map.{lookup, remove_entry}
 use Rattle.std.specs.BTreeMap.{is_at, insert_entry}
@@ -10,6 +10,7 @@ use Rattle.std.specs.Ordering.{is_eq, match_ordering}
 use Rattle.std.specs.declared.cmp.Ordering.{Ordering}
 use Rattle.std.specs.declared.cmp.Ordering.TheVariants.{Less, Equal, Greater}
 use Rattle.plan_schema.specs.declared.key.Key.{Key}
+use Rattle.plan_schema.specs.declared.key.Key.TheVariants as keys
 use Rattle.plan_schema.specs.declared.key.Record.{Record}
 use Rattle.plan_schema.specs.Key.{key_cmp}
 use Rattle.plan_schema.specs.Contents.{Contents, record_at, is_ordered}
@@ -59,13 +60,32 @@ sound_changed : (c : Contents) (change : Key × Option Record) → are_sound_row
 sound_changed c (k, Some value) h s = all_insert key_exact (λ row. is_sound_row row.0 row.1) k value c h s
 sound_changed c (k, None) h s = all_remove (λ row. is_sound_row row.0 row.1) (is_at (key_cmp k)) c h
 
+-- the horizon's record is not taken away
+horizon_changed : (c : Contents) (change : Key × Option Record) → is_ordered c ≡ true → is_sound_own change ≡ true → IsSome (record_at c keys.Plan) → IsSome (record_at (changed c change.0 change.1) keys.Plan)
+horizon_changed c (k, new) h s there = by_cases (is_eq (key_cmp keys.Plan k)) refl
+  where
+    put_there : (o : Option Record) → is_sound_own (keys.Plan, o) ≡ true → IsSome o
+    put_there (Some value) s = refl
+    put_there None s = cc
+
+    by_cases : (t : Bool) → is_eq (key_cmp keys.Plan k) ≡ t → IsSome (record_at (changed c k new) keys.Plan)
+    by_cases true t =
+        let same : k ≡ keys.Plan = sym (key_exact keys.Plan k (is_equal (key_cmp keys.Plan k) t)) in
+        let shows : record_at (changed c k new) keys.Plan ≡ new = ap (record_at (changed c k new)) (sym same) ∙ changed_shows c k new h in
+        subst IsSome (sym shows) (put_there new (subst (λ x. is_sound_own (x, new) ≡ true) same s))
+    by_cases false t = subst IsSome (sym (others_show c keys.Plan k new t)) there
+
 -- changes laid over contents -----------------------------------------------------------------------------------------------------------
 
 pub whole_laid : (c : Contents) (later : OwnChanges) → AreWholeContents c → list_all is_sound_own later ≡ true → AreWholeContents (laid_over c later)
 whole_laid c [] whole h = whole
 whole_laid c (change ∷ later) whole h =
     let two = both_parts (is_sound_own change) (list_all is_sound_own later) h in
-    whole_laid (changed c change.0 change.1) later (record { ordered = ordered_changed c change.0 change.1 whole.ordered; sound = sound_changed c change whole.sound two.0 }) two.1
+    whole_laid (changed c change.0 change.1) later (record {
+      ordered = ordered_changed c change.0 change.1 whole.ordered;
+      sound = sound_changed c change whole.sound two.0;
+      horizon = horizon_changed c change whole.ordered two.0 whole.horizon;
+    }) two.1
 
 -- below all own keys nothing is said
 nothing_below : (own : OwnChanges) (q k : Key) (under : Option Record) → is_eq (key_cmp q k) ≡ true → below_all key_cmp k own ≡ true → shown own q under ≡ under

@@ -1,10 +1,10 @@
 -- Lists of pairs in the order of their keys, after an entry is put or taken away.
-use Rattle.std.proofs.Common.{◌≡◌, List, [], ◌∷◌, refl, sym, ◌∙◌, ap, subst, Bool, true, false, cond, ◌&&◌}
-use Rattle.std.specs.Prelude.{Some, None, T}
+use Rattle.std.proofs.Common.{◌≡◌, suc, ◌+◌, ◌≤◌, List, [], ◌∷◌, length, refl, sym, ◌∙◌, ap, subst, Bool, true, false, cond, ◌&&◌, arith}
+use Rattle.std.specs.Prelude.{Some, None, T, is_some}
 use Rattle.std.specs.Map.{lookup, remove_entry}
 use Rattle.std.specs.BTreeMap.{is_at, insert_entry}
 use Rattle.std.specs.FinMap.{is_sorted, IsAntisymmetric}
-use Rattle.std.specs.FinMap.Entries.{put, find, below_all, by_order, find-put, is_sorted-put}
+use Rattle.std.specs.FinMap.Entries.{put, find, below_all, by_order, find-put, is_sorted-put, length-put}
 use Rattle.std.specs.Ordering.{is_eq, is_lt, match_ordering}
 use Rattle.std.specs.declared.cmp.Ordering.{Ordering}
 use Rattle.std.specs.declared.cmp.Ordering.TheVariants.{Less, Equal, Greater}
@@ -64,6 +64,12 @@ module _ {K X : Type 0} (R : K → K → Ordering) where
       let rest = both_so (is_lt (R x e.0)) (below_all R x (remove_entry test es)) two.0 (below_remove x test es two.1) in
       elim (test e.0) as (λ b. below_all R x (cond b es (e ∷ remove_entry test es)) ≡ true) [ true ↦ two.1 | false ↦ rest ]
 
+  pub length_remove : (test : K → Bool) (es : List (K × X)) → length (remove_entry test es) ≤ length es
+  length_remove test [] = omega arith
+  length_remove test (e ∷ es) =
+      let rest = length_remove test es in
+      elim (test e.0) as (λ b. length (cond b es (e ∷ remove_entry test es)) ≤ suc (length es)) [ true ↦ omega arith | false ↦ omega arith ]
+
   pub sorted_remove : (test : K → Bool) (es : List (K × X)) → is_sorted R es ≡ true → is_sorted R (remove_entry test es) ≡ true
   sorted_remove test [] h = refl
   sorted_remove test (e ∷ es) h =
@@ -95,6 +101,10 @@ module _ {K X : Type 0} {R : K → K → Ordering} (o : IsTotalOrder R) where
 
   pub sorted_insert : (k : K) (v : X) (es : List (K × X)) → is_sorted R es ≡ true → is_sorted R (insert_entry R es k v) ≡ true
   sorted_insert k v es h = ap (is_sorted R) (insert_is_put R k v es) ∙ is_so (is_sorted R (put R k v es)) (is_sorted-put R o k v es (holds (is_sorted R es) h))
+
+  pub length_insert : (k : K) (v : X) (es : List (K × X)) → is_sorted R es ≡ true → length (insert_entry R es k v) ≡ cond (is_some (lookup (is_at (R k)) es)) (length es) (length es + 1)
+  length_insert k v es h =
+      ap length (insert_is_put R k v es) ∙ length-put R o k v es (holds (is_sorted R es) h) ∙ ap (λ x. cond (is_some x) (length es) (length es + 1)) (sym (lookup_is_find R k es))
 
   module _ (exact : IsAntisymmetric R) where
     pub lookup_remove_other : (q k : K) (es : List (K × X)) → is_eq (R q k) ≡ false → lookup (is_at (R q)) (remove_entry (is_at (R k)) es) ≡ lookup (is_at (R q)) es

@@ -1,6 +1,7 @@
 -- What the changes do that the scenarios don't refuse.
-use Rattle.std.proofs.Common.{◌≡◌, List, [], ◌∷◌, refl, sym, ◌∙◌, ap, subst, Bool, true, false, cond, ◌&&◌}
-use Rattle.std.specs.Prelude.{Option, Some, None, is_some, is_none, unwrap_or, length, nat_le}
+use Rattle.std.proofs.Common.{◌≡◌, List, [], ◌∷◌, refl, sym, ◌∙◌, ap, subst, Bool, true, false, cond, ◌&&◌, ℕ, ◌<◌, ◌≤◌, arith}
+use Rattle.std.specs.Prelude.{Option, Some, None, is_some, is_none, unwrap_or, length, nat_le, nat_lt, count_by, IsSome}
+use Rattle.std.proofs.lemmas.Bool.Decides.{nat_tests}
 use Rattle.std.specs.List.{list_any, list_all, AllByRecursion}
 use Rattle.std.specs.FinMap.{is_sorted}
 use Rattle.plan_schema.specs.declared.name.Name.{Name}
@@ -10,6 +11,7 @@ use Rattle.plan_schema.specs.declared.change.Change.{Change}
 use Rattle.plan_schema.specs.declared.change.Change.TheVariants as changes
 use Rattle.plan_schema.specs.declared.refusal.Refusal.{Refusal}
 use Rattle.plan_schema.specs.declared.refusal.Refusal.TheVariants as refusals
+use Rattle.plan_schema.specs.declared.refusal.Room.TheVariants as rooms
 use Rattle.plan_schema.specs.Name.{is_name}
 use Rattle.plan_schema.specs.Key.{name_eq, key_cmp}
 use Rattle.plan_schema.specs.Contents.{record_at}
@@ -17,12 +19,12 @@ use Rattle.plan_schema.specs.Sound.{is_sound_row, are_sound_rows}
 use Rattle.plan_schema.specs.Refusals.{first_of, where_so}
 use Rattle.scenario_rules.specs.World.{OwnChanges, Scenario, World, root, is_root, root_with, scenario_at, scenario, with_scenario, parent_of, is_child_of, laid_over, contents_of, contents_in}
 use Rattle.scenario_rules.specs.Steps.{joined, with_changes, all_put, step}
-use Rattle.scenario_rules.specs.Refused.{named, no_scenario, denied, denied_parent, denied_owner, taken, at_root, has_children, too_deep, full_scenarios, no_record, conflict, full_parts, full_records, scenario_refusal}
-use Rattle.scenario_rules.specs.Whole.{is_sound_own, IsWholeScenario, HasParent, IsWhole}
+use Rattle.scenario_rules.specs.Refused.{named, no_scenario, denied, denied_parent, denied_owner, taken, at_root, has_children, too_deep, full_scenarios, no_record, conflict, changed_contents, is_part_row, full_parts, full_records, scenario_refusal}
+use Rattle.scenario_rules.specs.Whole.{AreWithinLimits, is_sound_own, IsWholeScenario, HasParent, IsWhole}
 use Rattle.scenario_rules.specs.Laws.{DropIsGone, DropLeavesOthers, shown, UpdateShowsParent, CommitJoins, CommitKeepsOthers, StepKeepsWhole}
 use Rattle.scenario_rules.proofs.Maps.{both_parts, both_so}
 use Rattle.scenario_rules.proofs.LaidOver.{shows_laid, ordered_joined, shows_joined, sound_puts}
-use Rattle.scenario_rules.proofs.Wholeness.{one_name, flipped, here_after, there_after, gone_after, others_after, put_whole, drop_whole, whole_contents, scenario_is, root_is, changes_whole}
+use Rattle.scenario_rules.proofs.Wholeness.{one_name, flipped, here_after, there_after, gone_after, others_after, put_whole, drop_whole, whole_contents, scenario_is, root_is, one_more, as_many, changes_whole}
 
 pub drop_is_gone : DropIsGone
 drop_is_gone w user s whole = gone_after w s whole
@@ -109,6 +111,25 @@ update_is w user s x e p = λ i. updated w s (scenario_is w s x e i) (parent_is 
 commit_is : (w : World) (user s : Name) (x : Scenario) → scenario_at w s ≡ Some x → (p : HasParent w s x) → step w user (changes.Commit s) ≡ committed w s x p.name
 commit_is w user s x e p = λ i. committed w s (scenario_is w s x e i) (parent_is w s x e p i)
 
+-- after a commit the parent holds what it held with the own changes
+parent_after : (w : World) (s : Name) (x : Scenario) (p : HasParent w s x) → contents_in (committed w s x p.name) p.name ≡ contents_in (with_changes w p.name x.own) p.name
+parent_after w s x p =
+    let given = with_changes w p.name x.own in
+    ap (λ o. contents_of (unwrap_or o (root_with []))) (there_after given s (record x { base = contents_in given p.name; own = [] }) p.name p.another)
+
+-- a change that isn't refused keeps within the limits
+at_most : (n most : ℕ) → nat_lt most n ≡ false → n ≤ most
+at_most n most h = grind (arith, nat_tests)
+
+within : (w : World) (user : Name) (change : Change) → scenario_refusal w user change ≡ None → AreWithinLimits (changed_contents w user change)
+within w user change h =
+    let each = passes w user change h in
+    let contents = changed_contents w user change in
+    record {
+      parts = at_most (count_by is_part_row contents) 10_000 (not_so (nat_lt 10_000 (count_by is_part_row contents)) (refusals.Full rooms.Parts) each.1.1.1.1.1.1.1.1.1.1.1.0);
+      records = at_most (length contents) 200_000 (not_so (nat_lt 200_000 (length contents)) (refusals.Full rooms.Records) each.1.1.1.1.1.1.1.1.1.1.1.1.0);
+    }
+
 -- what a commit finds in a whole world: the scenario, its parent, and the world after the parent took the own changes
 record Committing (w : World) (s : Name) : Type 0 where
   x : Scenario
@@ -117,6 +138,7 @@ record Committing (w : World) (s : Name) : Type 0 where
   parent : HasParent w s x
   above : Scenario
   above_is : scenario_at w parent.name ≡ Some above
+  limits : AreWithinLimits (contents_in (with_changes w parent.name x.own) parent.name)
   given : IsWhole (with_changes w parent.name x.own)
 
 committing : (w : World) (user s : Name) → IsWhole w → scenario_refusal w user (changes.Commit s) ≡ None → Committing w s
@@ -126,6 +148,9 @@ committing w user s whole h =
     let parent = whole.parents s x.0 x.1 other in
     let above = found (scenario_at w parent.name) parent.there in
     let it = whole.each s x.0 x.1 in
+    let held : changed_contents w user (changes.Commit s) ≡ contents_in (with_changes w parent.name x.0.own) parent.name =
+    (λ i. contents_in (commit_is w user s x.0 x.1 parent i) (parent_is w s x.0 x.1 parent i)) ∙ parent_after w s x.0 parent in
+    let limits = subst AreWithinLimits held (within w user (changes.Commit s) h) in
     record {
       x = x.0;
       is = x.1;
@@ -133,7 +158,8 @@ committing w user s whole h =
       parent = parent;
       above = above.0;
       above_is = above.1;
-      given = changes_whole w parent.name above.0 x.0.own whole above.1 it.own.sound;
+      limits = limits;
+      given = changes_whole w parent.name above.0 x.0.own whole above.1 it.own.sound limits;
     }
 
 -- a sound change that isn't refused keeps the world whole -----------------------------------------------------------------------------
@@ -151,10 +177,19 @@ branch_whole w user s child whole h =
     let x = named_there w user (changes.Branch s child) h in
     let free : scenario_at w child ≡ None = is_absent (scenario_at w child) (not_so (is_some (scenario_at w child)) (refusals.Taken child) (passes w user (changes.Branch s child) h).1.1.1.1.0) in
     put_whole w child (record { parent = Some s; owner = Some user; private = true; base = contents_in w s; own = [] }) whole
-    (record { base = whole_contents w s whole; own = record { ordered = refl; sound = refl } })
+    (record {
+      base = whole_contents w s whole (ap is_some x.1);
+      own = record { ordered = refl; sound = refl };
+      limits = subst (λ v. AreWithinLimits (contents_of v)) (sym (scenario_is w s x.0 x.1)) (whole.each s x.0 x.1).limits;
+    })
     (λ t. some_is_none (root_with whole.rooted.0) (sym whole.rooted.1 ∙ ap (scenario_at w) (sym (one_name child root t)) ∙ free))
     (λ _. record { name = s; is = refl; another = apart x.0 x.1 free (name_eq s child) refl; there = ap is_some x.1 })
+    (one_more w child (record { parent = Some s; owner = Some user; private = true; base = contents_in w s; own = [] }) whole
+    (below (length w) 256 (not_so (nat_le 256 (length w)) (refusals.Full rooms.Scenarios) (passes w user (changes.Branch s child) h).1.1.1.1.1.1.1.1.0)))
   where
+    below : (n most : ℕ) → nat_le most n ≡ false → n < most
+    below n most h = grind (arith, nat_tests)
+
     apart : (x : Scenario) → scenario_at w s ≡ Some x → scenario_at w child ≡ None → (t : Bool) → name_eq s child ≡ t → t ≡ false
     apart x e free true t = some_is_none x (sym e ∙ ap (scenario_at w) (one_name s child t) ∙ free)
     apart x e free false t = refl
@@ -166,17 +201,25 @@ share_whole w user s whole h =
     let it = whole.each s x.0 x.1 in
     let p = whole.parents s x.0 x.1 other in
     subst (λ (v : Scenario). IsWhole (with_scenario w s (record v { private = false }))) (sym (scenario_is w s x.0 x.1))
-    (put_whole w s (record x.0 { private = false }) whole (record { base = it.base; own = it.own }) (λ t. clash (sym t ∙ other))
-    (λ _. record { name = p.name; is = p.is; another = p.another; there = p.there }))
+    (put_whole w s (record x.0 { private = false }) whole (record { base = it.base; own = it.own; limits = it.limits }) (λ t. clash (sym t ∙ other))
+    (λ _. record { name = p.name; is = p.is; another = p.another; there = p.there }) (as_many w s x.0 (record x.0 { private = false }) whole x.1))
 
 update_whole : (w : World) (user s : Name) → IsWhole w → scenario_refusal w user (changes.Update s) ≡ None → IsWhole (step w user (changes.Update s))
 update_whole w user s whole h =
     let x = named_there w user (changes.Update s) h in
     let other : is_root s ≡ false = not_root s (passes w user (changes.Update s) h).1.1.1.1.1.0 in
     let p = whole.parents s x.0 x.1 other in
+    let y : Scenario = record x.0 { base = contents_in w p.name } in
+    let held : changed_contents w user (changes.Update s) ≡ contents_of y =
+    ap (λ v. contents_in v s) (update_is w user s x.0 x.1 p) ∙ ap contents_of (scenario_is (updated w s x.0 p.name) s y (here_after w s y)) in
     subst IsWhole (sym (update_is w user s x.0 x.1 p))
-    (put_whole w s (record x.0 { base = contents_in w p.name }) whole (record { base = whole_contents w p.name whole; own = (whole.each s x.0 x.1).own }) (λ t. clash (sym t ∙ other))
-    (λ _. record { name = p.name; is = p.is; another = p.another; there = p.there }))
+    (put_whole w s y whole
+    (record { base = whole_contents w p.name whole p.there; own = (whole.each s x.0 x.1).own; limits = subst AreWithinLimits held (within w user (changes.Update s) h) })
+    (λ t. clash (sym t ∙ other)) (λ _. record { name = p.name; is = p.is; another = p.another; there = p.there }) (as_many w s x.0 y whole x.1))
+
+-- a scenario that took changes is there
+taker_there : (w : World) (s : Name) (later : OwnChanges) → IsSome (scenario_at (with_changes w s later) s)
+taker_there w s later = ap is_some (here_after w s _)
 
 commit_whole : (w : World) (user s : Name) → IsWhole w → scenario_refusal w user (changes.Commit s) ≡ None → IsWhole (step w user (changes.Commit s))
 commit_whole w user s whole h =
@@ -187,20 +230,21 @@ commit_whole w user s whole h =
     let p = at.given.parents s at.x still other in
     subst IsWhole (sym (commit_is w user s at.x at.is at.parent))
     (put_whole given s (record at.x { base = contents_in given at.parent.name; own = [] }) at.given
-    (record { base = whole_contents given at.parent.name at.given; own = record { ordered = refl; sound = refl } }) (λ t. clash (sym t ∙ other))
-    (λ _. record { name = p.name; is = p.is; another = p.another; there = p.there }))
+    (record { base = whole_contents given at.parent.name at.given (taker_there w at.parent.name at.x.own); own = record { ordered = refl; sound = refl }; limits = at.limits })
+    (λ t. clash (sym t ∙ other)) (λ _. record { name = p.name; is = p.is; another = p.another; there = p.there })
+    (as_many given s at.x (record at.x { base = contents_in given at.parent.name; own = [] }) at.given still))
 
 pub step_keeps_whole : StepKeepsWhole
 step_keeps_whole w user (changes.Put s key value) whole sound h =
     let x = named_there w user (changes.Put s key value) h in
-    changes_whole w s x.0 ((key, Some value) ∷ []) whole x.1 (one_sound (key, Some value) (both_parts (is_name s) (is_sound_row key value) sound).1)
+    changes_whole w s x.0 ((key, Some value) ∷ []) whole x.1 (one_sound (key, Some value) (both_parts (is_name s) (is_sound_row key value) sound).1) (within w user (changes.Put s key value) h)
 step_keeps_whole w user (changes.Del s key) whole sound h =
     let x = named_there w user (changes.Del s key) h in
-    changes_whole w s x.0 ((key, None) ∷ []) whole x.1 (one_sound (key, None) (both_parts (is_name s) (is_sound_own (key, None)) sound).1)
+    changes_whole w s x.0 ((key, None) ∷ []) whole x.1 (one_sound (key, None) (both_parts (is_name s) (is_sound_own (key, None)) sound).1) (within w user (changes.Del s key) h)
 step_keeps_whole w user (changes.Load s rows) whole sound h =
     let x = named_there w user (changes.Load s rows) h in
     changes_whole w s x.0 (all_put rows) whole x.1 (sound_puts rows (three_parts (nat_le 1 (length rows)) (nat_le (length rows) 1_000) (are_sound_rows rows)
-    (both_parts (is_name s) (nat_le 1 (length rows) && nat_le (length rows) 1_000 && are_sound_rows rows) sound).1))
+    (both_parts (is_name s) (nat_le 1 (length rows) && nat_le (length rows) 1_000 && are_sound_rows rows) sound).1)) (within w user (changes.Load s rows) h)
 step_keeps_whole w user (changes.Branch s child) whole sound h = branch_whole w user s child whole h
 step_keeps_whole w user (changes.Share s) whole sound h = share_whole w user s whole h
 step_keeps_whole w user (changes.Update s) whole sound h = update_whole w user s whole h
@@ -219,7 +263,7 @@ update_shows_parent w user s key whole h =
     let y : Scenario = record x.0 { base = contents_in w p.name } in
     ap (λ v. record_at (contents_in v s) key) (update_is w user s x.0 x.1 p)
     ∙ ap (λ z. record_at (contents_of z) key) (scenario_is (updated w s x.0 p.name) s y (here_after w s y))
-    ∙ shows_laid (contents_in w p.name) x.0.own key (whole_contents w p.name whole).ordered (whole.each s x.0 x.1).own.ordered
+    ∙ shows_laid (contents_in w p.name) x.0.own key (whole_contents w p.name whole p.there).ordered (whole.each s x.0 x.1).own.ordered
     ∙ sym (λ i. shown (scenario_is w s x.0 x.1 i).own key (record_at (contents_in w (parent_is w s x.0 x.1 p i)) key))
 
 -- what shows of a scenario that took changes
@@ -246,12 +290,7 @@ changes_show w s x later key whole e sorted =
         ∙ shows_joined x.own later key (record_at x.base key) sorted
         ∙ ap (shown later key) (sym (shows_laid x.base x.own key it.base.ordered it.own.ordered))
 
--- after a commit the parent holds what it held with the own changes, and so does the child
-parent_after : (w : World) (s : Name) (at : Committing w s) → contents_in (committed w s at.x at.parent.name) at.parent.name ≡ contents_in (with_changes w at.parent.name at.x.own) at.parent.name
-parent_after w s at =
-    let given = with_changes w at.parent.name at.x.own in
-    ap (λ o. contents_of (unwrap_or o (root_with []))) (there_after given s (record at.x { base = contents_in given at.parent.name; own = [] }) at.parent.name at.parent.another)
-
+-- and so does the child
 child_after : (w : World) (s : Name) (at : Committing w s) → contents_in (committed w s at.x at.parent.name) s ≡ contents_in (with_changes w at.parent.name at.x.own) at.parent.name
 child_after w s at =
     let given = with_changes w at.parent.name at.x.own in
@@ -262,13 +301,13 @@ pub commit_joins : CommitJoins
 commit_joins w user s whole h =
     let at = committing w user s whole h in
     let done = commit_is w user s at.x at.is at.parent in
-    ap (λ v. contents_in v s) done ∙ child_after w s at ∙ sym (parent_after w s at) ∙ sym (λ i. contents_in (done i) (parent_is w s at.x at.is at.parent i))
+    ap (λ v. contents_in v s) done ∙ child_after w s at ∙ sym (parent_after w s at.x at.parent) ∙ sym (λ i. contents_in (done i) (parent_is w s at.x at.is at.parent i))
 
 pub commit_keeps_others : CommitKeepsOthers
 commit_keeps_others w user s key whole h =
     let at = committing w user s whole h in
     let done = commit_is w user s at.x at.is at.parent in
     (λ i. record_at (contents_in (done i) (parent_is w s at.x at.is at.parent i)) key)
-    ∙ ap (λ c. record_at c key) (parent_after w s at)
+    ∙ ap (λ c. record_at c key) (parent_after w s at.x at.parent)
     ∙ changes_show w at.parent.name at.above at.x.own key whole at.above_is at.whole.own.ordered
     ∙ sym (λ i. shown (scenario_is w s at.x at.is i).own key (record_at (contents_in w (parent_is w s at.x at.is at.parent i)) key))

@@ -1,6 +1,6 @@
 -- A world stays whole where a scenario is put into it or taken out.
-use Rattle.std.proofs.Common.{◌≡◌, [], ◌∷◌, refl, sym, ◌∙◌, ap, subst, Bool, true, false, cond, ◌||◌}
-use Rattle.std.specs.Prelude.{Option, Some, None, IsSome, unwrap_or}
+use Rattle.std.proofs.Common.{◌≡◌, ◌+◌, ◌<◌, ◌≤◌, [], ◌∷◌, length, refl, sym, ◌∙◌, ap, subst, Bool, true, false, cond, ◌||◌, arith}
+use Rattle.std.specs.Prelude.{Option, Some, None, IsSome, is_some, unwrap_or}
 use Rattle.std.specs.List.{list_any, list_all}
 use Rattle.std.specs.Map.{lookup}
 use Rattle.std.specs.BTreeMap.{is_at}
@@ -9,11 +9,11 @@ use Rattle.std.specs.Cmp.{tied_itself}
 use Rattle.plan_schema.specs.declared.name.Name.{Name}
 use Rattle.plan_schema.specs.Key.{name_cmp, name_eq}
 use Rattle.plan_schema.specs.Contents.{Contents}
-use Rattle.scenario_rules.specs.World.{OwnChanges, Scenario, World, root, is_root, root_with, scenario_at, scenario, with_scenario, without_scenario, is_name_of, is_child_of, laid_over, contents_of}
+use Rattle.scenario_rules.specs.World.{OwnChanges, Scenario, World, root, is_root, root_with, scenario_at, scenario, with_scenario, without_scenario, is_name_of, is_child_of, laid_over, contents_of, contents_in}
 use Rattle.scenario_rules.specs.Steps.{joined, with_changes}
-use Rattle.scenario_rules.specs.Whole.{AreWholeContents, is_sound_own, IsWholeScenario, HasParent, IsWhole}
+use Rattle.scenario_rules.specs.Whole.{AreWholeContents, AreWithinLimits, is_sound_own, IsWholeScenario, HasParent, IsWhole}
 use Rattle.scenario_rules.specs.Laws.{WholeContents}
-use Rattle.scenario_rules.proofs.Maps.{is_equal, apart_flips, sorted_insert, sorted_remove, lookup_insert_same, lookup_insert_other, lookup_remove_same, lookup_remove_other}
+use Rattle.scenario_rules.proofs.Maps.{is_equal, apart_flips, sorted_insert, sorted_remove, length_insert, length_remove, lookup_insert_same, lookup_insert_other, lookup_remove_same, lookup_remove_other}
 use Rattle.scenario_rules.proofs.Keys.{name_total, name_exact}
 use Rattle.scenario_rules.proofs.LaidOver.{whole_laid, whole_joined}
 
@@ -51,9 +51,10 @@ parent_stays w s y q x p = record { name = p.name; is = p.is; another = p.anothe
 
 -- a whole scenario is put in: as the root, or with a parent
 pub put_whole : (w : World) (s : Name) (y : Scenario) → IsWhole w → IsWholeScenario y → (is_root s ≡ true → (c : Contents) × (y ≡ root_with c)) → (is_root s ≡ false → HasParent w s y)
-    → IsWhole (with_scenario w s y)
-put_whole w s y whole it rooted parent = record {
+    → length (with_scenario w s y) ≤ 256 → IsWhole (with_scenario w s y)
+put_whole w s y whole it rooted parent few = record {
   ordered = sorted_insert name_total s y w whole.ordered;
+  few = few;
   rooted = root_after (is_root s) refl;
   each = λ q x e. each_after q x e (name_eq q s) refl;
   parents = λ q x e other. parents_after q x e other (name_eq q s) refl;
@@ -96,6 +97,7 @@ found_any test at (entry ∷ w) x e h = by_cases (found_any test at w x) (at ent
 pub drop_whole : (w : World) (s : Name) → IsWhole w → is_root s ≡ false → list_any (λ entry. is_child_of entry.1 s) w ≡ false → IsWhole (without_scenario w s)
 drop_whole w s whole other childless = record {
   ordered = sorted_remove name_cmp (is_at (name_cmp s)) w whole.ordered;
+  few = (let fewer = length_remove name_cmp (is_at (name_cmp s)) w in let most = whole.few in omega arith);
   rooted = (whole.rooted.0, others_after w s root (flipped s root other) ∙ whole.rooted.1);
   each = λ q x e. each_after q x e (name_eq q s) refl;
   parents = λ q x e not_root. parents_after q x e not_root (name_eq q s) refl;
@@ -129,11 +131,24 @@ drop_whole w s whole other childless = record {
 
 -- the contents of a scenario are whole
 pub whole_contents : WholeContents
-whole_contents w s whole = by_cases (scenario_at w s) refl
+whole_contents w s whole there = by_cases (scenario_at w s) refl there
   where
-    by_cases : (o : Option Scenario) → scenario_at w s ≡ o → AreWholeContents (contents_of (unwrap_or o (root_with [])))
-    by_cases None e = record { ordered = refl; sound = refl }
-    by_cases (Some x) e = let it = whole.each s x e in whole_laid x.base x.own it.base it.own.sound
+    by_cases : (o : Option Scenario) → scenario_at w s ≡ o → IsSome o → AreWholeContents (contents_of (unwrap_or o (root_with [])))
+    by_cases None e some = cc
+    by_cases (Some x) e some = let it = whole.each s x e in whole_laid x.base x.own it.base it.own.sound
+
+-- one scenario more, or in the place of one
+pub one_more : (w : World) (s : Name) (y : Scenario) → IsWhole w → length w < 256 → length (with_scenario w s y) ≤ 256
+one_more w s y whole room = by_cases (is_some (scenario_at w s)) (length_insert name_total s y w whole.ordered)
+  where
+    by_cases : (t : Bool) → length (with_scenario w s y) ≡ cond t (length w) (length w + 1) → length (with_scenario w s y) ≤ 256
+    by_cases true e = omega arith
+    by_cases false e = omega arith
+
+pub as_many : (w : World) (s : Name) (x y : Scenario) → IsWhole w → scenario_at w s ≡ Some x → length (with_scenario w s y) ≤ 256
+as_many w s x y whole e =
+    let same : length (with_scenario w s y) ≡ length w = length_insert name_total s y w whole.ordered ∙ ap (λ o. cond (is_some o) (length w) (length w + 1)) e in
+    let most = whole.few in omega arith
 
 -- the scenario of a name that is there
 pub scenario_is : (w : World) (s : Name) (x : Scenario) → scenario_at w s ≡ Some x → scenario w s ≡ x
@@ -145,24 +160,33 @@ root_is w s x whole e t =
     (whole.rooted.0, same_scenario x (root_with whole.rooted.0) (sym e ∙ ap (scenario_at w) (one_name s root t) ∙ whole.rooted.1))
 
 -- a scenario takes sound changes
-pub changes_whole : (w : World) (s : Name) (x : Scenario) (later : OwnChanges) → IsWhole w → scenario_at w s ≡ Some x → list_all is_sound_own later ≡ true → IsWhole (with_changes w s later)
-changes_whole w s x later whole e sound =
-    subst (λ v. IsWhole (with_scenario w s (cond (is_root s) (record v { base = laid_over v.base later }) (record v { own = joined v.own later })))) (sym (scenario_is w s x e)) (by_cases (is_root s) refl)
+pub changes_whole : (w : World) (s : Name) (x : Scenario) (later : OwnChanges) → IsWhole w → scenario_at w s ≡ Some x → list_all is_sound_own later ≡ true → AreWithinLimits (contents_in (with_changes w s later) s) → IsWhole (with_changes w s later)
+changes_whole w s x later whole e sound limits =
+    subst (λ v. IsWhole (with_scenario w s (taken_by (is_root s) v))) (sym (scenario_is w s x e)) (by_cases (is_root s) refl)
   where
-    by_cases : (t : Bool) → is_root s ≡ t → IsWhole (with_scenario w s (cond t (record x { base = laid_over x.base later }) (record x { own = joined x.own later })))
+    taken_by : Bool → Scenario → Scenario
+    taken_by t v = cond t (record v { base = laid_over v.base later }) (record v { own = joined v.own later })
+
+    limits_are : AreWithinLimits (contents_of (taken_by (is_root s) x))
+    limits_are =
+        subst AreWithinLimits
+        ((λ i. contents_of (scenario (with_scenario w s (taken_by (is_root s) (scenario_is w s x e i))) s))
+        ∙ ap contents_of (scenario_is (with_scenario w s (taken_by (is_root s) x)) s (taken_by (is_root s) x) (here_after w s (taken_by (is_root s) x)))) limits
+
+    by_cases : (t : Bool) → is_root s ≡ t → IsWhole (with_scenario w s (taken_by t x))
     by_cases true t =
         let it = whole.each s x e in
         let c = root_is w s x whole e t in
-        put_whole w s (record x { base = laid_over x.base later }) whole (record { base = whole_laid x.base later it.base sound; own = it.own })
-        (λ _. (laid_over c.0 later, ap (λ (v : Scenario). record v { base = laid_over v.base later }) c.1)) (λ no. absurd (no_such (sym t ∙ no)))
+        put_whole w s (record x { base = laid_over x.base later }) whole (record { base = whole_laid x.base later it.base sound; own = it.own; limits = subst (λ b. AreWithinLimits (contents_of (taken_by b x))) t limits_are })
+        (λ _. (laid_over c.0 later, ap (λ (v : Scenario). record v { base = laid_over v.base later }) c.1)) (λ no. absurd (no_such (sym t ∙ no))) (as_many w s x (record x { base = laid_over x.base later }) whole e)
       where
         no_such : true ≡ false → ⊥
         no_such h = cc
     by_cases false t =
         let it = whole.each s x e in
         let p = whole.parents s x e t in
-        put_whole w s (record x { own = joined x.own later }) whole (record { base = it.base; own = whole_joined x.own later it.own sound })
-        (λ yes'. absurd (no_such (sym yes' ∙ t))) (λ _. record { name = p.name; is = p.is; another = p.another; there = p.there })
+        put_whole w s (record x { own = joined x.own later }) whole (record { base = it.base; own = whole_joined x.own later it.own sound; limits = subst (λ b. AreWithinLimits (contents_of (taken_by b x))) t limits_are })
+        (λ yes'. absurd (no_such (sym yes' ∙ t))) (λ _. record { name = p.name; is = p.is; another = p.another; there = p.there }) (as_many w s x (record x { own = joined x.own later }) whole e)
       where
         no_such : true ≡ false → ⊥
         no_such h = cc

@@ -1,5 +1,5 @@
 -- What holds of the definitions of scenarios.
-use Rattle.std.specs.Prelude.{◌≡◌, ◌≢◌, ◌↔◌, ℕ, true, false, List, take, slice_get, Option, Some, None, unwrap_or}
+use Rattle.std.specs.Prelude.{◌≡◌, ◌≢◌, ◌↔◌, ℕ, true, false, List, take, slice_get, Option, Some, None, unwrap_or, IsSome}
 use Rattle.std.specs.Map.{lookup}
 use Rattle.std.specs.BTreeMap.{is_at}
 use Rattle.plan_schema.specs.declared.name.Name.{Name}
@@ -17,7 +17,7 @@ use Rattle.scenario_rules.specs.World.{OwnChanges, World, scenario_at, scenario,
 use Rattle.scenario_rules.specs.Steps.{step, world_after}
 use Rattle.scenario_rules.specs.Refused.{scenario_refusal, refused}
 use Rattle.scenario_rules.specs.Journal.{IsLegal}
-use Rattle.scenario_rules.specs.Whole.{AreWholeContents, IsWhole}
+use Rattle.scenario_rules.specs.Whole.{AreWholeContents, AreWithinLimits, IsWhole}
 
 -- two records, or their absence, are the same by their fields exactly where they are equal
 abbrev pub SameIsEqual : Type 0
@@ -59,10 +59,10 @@ RefusedIsAbsent = (base : Contents) (history : List Entry) (k : ℕ) (entry : En
 abbrev pub StepKeepsWhole : Type 0
 StepKeepsWhole = (w : World) (user : Name) (change : Change) → IsWhole w → is_sound_change change ≡ true → scenario_refusal w user change ≡ None → IsWhole (step w user change)
 
--- the world after a legal history is whole, where the records that it began with are
+-- the world after a legal history is whole, where the records that it began with are, and within the limits
 abbrev pub LegalIsWhole : Type 0
-LegalIsWhole = (base : Contents) (history : List Entry) → AreWholeContents base → IsLegal base history → IsWhole (world_after base history)
+LegalIsWhole = (base : Contents) (history : List Entry) → AreWholeContents base → AreWithinLimits base → IsLegal base history → IsWhole (world_after base history)
 
--- the contents of a scenario of a whole world are in key order, with sound rows alone
+-- the contents of a scenario of a whole world are in key order, with sound rows alone and a horizon among them
 abbrev pub WholeContents : Type 0
-WholeContents = (w : World) (s : Name) → IsWhole w → AreWholeContents (contents_in w s)
+WholeContents = (w : World) (s : Name) → IsWhole w → IsSome (scenario_at w s) → AreWholeContents (contents_in w s)

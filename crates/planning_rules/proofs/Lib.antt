@@ -6,6 +6,7 @@ pub mod Settling
 pub mod PlanLaws
 pub mod AncestorLaws
 pub mod LevelLaws
+pub mod Planned
 pub mod LeastNames
 pub mod Reach
 pub mod PegLaws

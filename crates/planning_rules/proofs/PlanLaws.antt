@@ -38,15 +38,15 @@ step_local f g c n h =
     λ i. cond (outcomes_same f g (bills_of c n) h i) (known_from (input_of c n (gross i) (record_at c (keys.Part n)))) None
 
 -- a plan that is there stays
-cond_some : {A : Type 0} (b : Bool) (o : Option A) → is_some (cond b o None) ≡ true → b ≡ true
+pub cond_some : {A : Type 0} (b : Bool) (o : Option A) → is_some (cond b o None) ≡ true → b ≡ true
 cond_some true o h = refl
 cond_some false o h = h
 
-both_true : (a b : Bool) → (a && b) ≡ true → (a ≡ true) × (b ≡ true)
+pub both_true : (a b : Bool) → (a && b) ≡ true → (a ≡ true) × (b ≡ true)
 both_true true b h = (refl, h)
 both_true false b h = cc
 
-outcome_some : (o : Option Known) → has_outcome o ≡ true → is_some o ≡ true
+pub outcome_some : (o : Option Known) → has_outcome o ≡ true → is_some o ≡ true
 outcome_some None h = h
 outcome_some (Some k) h = refl
 

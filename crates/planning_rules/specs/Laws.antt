@@ -39,6 +39,10 @@ NoLevelIsCyclic = (c : Contents) (n : Name) → level c n ≡ None → (y : Name
 abbrev pub CyclicHasNoLevel : Type 0
 CyclicHasNoLevel = (c : Contents) (n a : Name) → is_ancestor c n a ≡ true → is_ancestor c a a ≡ true → level c n ≡ None
 
+-- a name without a level is not planned
+abbrev pub NoLevelIsNoPlan : Type 0
+NoLevelIsNoPlan = (c : Contents) (n : Name) → level c n ≡ None → plan c n ≡ None
+
 -- the pegs of a day sum to its gross requirements
 abbrev pub PegsAreGross : Type 0
 PegsAreGross = (plans : Name → Option Known) (c : Contents) (n : Name) (t : ℕ) → sum_by peg_qty (pegs_from plans c n t) ≡ gross_on plans c n t

@@ -1,5 +1,5 @@
 //! What holds of the definitions of planning: each law is the contract of a function that does nothing.
-ghost use Rattle.planning_rules.specs.Laws.{ChainsAreShort, CyclicHasNoLevel, CyclicIsNoLevel, LeastIsPromise, LeastNameIsLeast, LevelIsRefused, NoLevelIsCyclic, OneNetting, PegsAreGross, PlanIsCyclic, PlanIsStep, WalkIsPlan};
+ghost use Rattle.planning_rules.specs.Laws.{ChainsAreShort, CyclicHasNoLevel, CyclicIsNoLevel, LeastIsPromise, LeastNameIsLeast, LevelIsRefused, NoLevelIsCyclic, NoLevelIsNoPlan, OneNetting, PegsAreGross, PlanIsCyclic, PlanIsStep, WalkIsPlan};
 
 /// Exactly one list is that of the planned orders of an input.
 pub fn one_netting()
@@ -17,10 +17,11 @@ pub fn short_chains()
     ensures { ChainsAreShort }
 {}
 
-/// A name has no level exactly where it stands below or on a cycle.
+/// A name has no level exactly where it stands below or on a cycle, and it isn't planned then.
 pub fn cycles_alone()
     ensures cycle { NoLevelIsCyclic }
     ensures none { CyclicHasNoLevel }
+    ensures plan { NoLevelIsNoPlan }
 {}
 
 /// The pegs of a day sum to its gross requirements.

@@ -1,5 +1,5 @@
 -- What the changes do that the scenarios don't refuse.
-use Rattle.std.proofs.Common.{◌≡◌, List, [], ◌∷◌, refl, sym, ◌∙◌, ap, subst, Bool, true, false, cond, ◌&&◌, ℕ, ◌<◌, ◌≤◌, arith}
+use Rattle.std.proofs.Common.{◌≡◌, List, [], ◌∷◌, refl, sym, ◌∙◌, ap, subst, Bool, true, false, cond, ◌&&◌, ℕ, ◌<◌, ◌≤◌, arith, ◌||◌}
 use Rattle.std.specs.Prelude.{Option, Some, None, is_some, is_none, unwrap_or, length, nat_le, nat_lt, count_by, IsSome}
 use Rattle.std.proofs.lemmas.Bool.Decides.{nat_tests}
 use Rattle.std.specs.List.{list_any, list_all, AllByRecursion}
@@ -21,10 +21,28 @@ use Rattle.scenario_rules.specs.World.{OwnChanges, Scenario, World, root, is_roo
 use Rattle.scenario_rules.specs.Steps.{joined, with_changes, all_put, step}
 use Rattle.scenario_rules.specs.Refused.{named, no_scenario, denied, denied_parent, denied_owner, taken, at_root, has_children, too_deep, full_scenarios, no_record, conflict, changed_contents, is_part_row, full_parts, full_records, scenario_refusal}
 use Rattle.scenario_rules.specs.Whole.{AreWithinLimits, is_sound_own, IsWholeScenario, HasParent, IsWhole}
-use Rattle.scenario_rules.specs.Laws.{DropIsGone, DropLeavesOthers, shown, UpdateShowsParent, CommitJoins, CommitKeepsOthers, StepKeepsWhole}
+use Rattle.scenario_rules.specs.Laws.{StepLeavesOthers, DropIsGone, DropLeavesOthers, shown, UpdateShowsParent, CommitJoins, CommitKeepsOthers, StepKeepsWhole}
 use Rattle.scenario_rules.proofs.Maps.{both_parts, both_so}
 use Rattle.scenario_rules.proofs.LaidOver.{shows_laid, ordered_joined, shows_joined, sound_puts}
 use Rattle.scenario_rules.proofs.Wholeness.{one_name, flipped, here_after, there_after, gone_after, others_after, put_whole, drop_whole, whole_contents, scenario_is, root_is, one_more, as_many, changes_whole}
+
+-- a name that is none of one or of two
+not_first : (a b : Bool) → (a || b) ≡ false → (a ≡ false) × (b ≡ false)
+not_first true b h = cc
+not_first false b h = (refl, h)
+
+pub step_leaves_others : StepLeavesOthers
+step_leaves_others w user (changes.Put s key value) other h = there_after w s _ other (not_first (name_eq other s) false h).0
+step_leaves_others w user (changes.Del s key) other h = there_after w s _ other (not_first (name_eq other s) false h).0
+step_leaves_others w user (changes.Load s rows) other h = there_after w s _ other (not_first (name_eq other s) false h).0
+step_leaves_others w user (changes.Branch s child) other h = there_after w child _ other (not_first (name_eq other child) false h).0
+step_leaves_others w user (changes.Share s) other h = there_after w s _ other (not_first (name_eq other s) false h).0
+step_leaves_others w user (changes.Update s) other h = there_after w s _ other (not_first (name_eq other s) false h).0
+step_leaves_others w user (changes.Commit s) other h =
+    let p = parent_of (scenario w s) in
+    let two = not_first (name_eq other s) (name_eq other p || false) h in
+    there_after (with_changes w p (scenario w s).own) s _ other two.0 ∙ there_after w p _ other (not_first (name_eq other p) false two.1).0
+step_leaves_others w user (changes.Drop s) other h = others_after w s other (not_first (name_eq other s) false h).0
 
 pub drop_is_gone : DropIsGone
 drop_is_gone w user s whole = gone_after w s whole

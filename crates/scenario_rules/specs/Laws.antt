@@ -1,5 +1,6 @@
 -- What holds of the definitions of scenarios.
-use Rattle.std.specs.Prelude.{◌≡◌, ◌≢◌, ◌↔◌, ℕ, true, false, List, take, slice_get, Option, Some, None, unwrap_or, IsSome}
+use Rattle.std.specs.Prelude.{◌≡◌, ◌≢◌, ◌↔◌, ℕ, true, false, List, [], ◌∷◌, take, slice_get, Option, Some, None, unwrap_or, IsSome}
+use Rattle.std.specs.List.{list_any}
 use Rattle.std.specs.Map.{lookup}
 use Rattle.std.specs.BTreeMap.{is_at}
 use Rattle.plan_schema.specs.declared.name.Name.{Name}
@@ -15,13 +16,23 @@ use Rattle.plan_schema.specs.Sound.{is_sound_change}
 use Rattle.scenario_rules.specs.Same.{same_option, same_record}
 use Rattle.scenario_rules.specs.World.{OwnChanges, World, scenario_at, scenario, parent_of, contents_in}
 use Rattle.scenario_rules.specs.Steps.{step, world_after}
-use Rattle.scenario_rules.specs.Refused.{scenario_refusal, refused}
+use Rattle.scenario_rules.specs.Refused.{named, scenario_refusal, refused}
 use Rattle.scenario_rules.specs.Journal.{IsLegal}
 use Rattle.scenario_rules.specs.Whole.{AreWholeContents, AreWithinLimits, IsWhole}
 
 -- two records, or their absence, are the same by their fields exactly where they are equal
 abbrev pub SameIsEqual : Type 0
 SameIsEqual = (a b : Option Record) → (same_option same_record a b ≡ true) ↔ (a ≡ b)
+
+-- the scenarios that a change touches: of a BRANCH the new one, of a COMMIT the child and its parent, of any other the named one
+abbrev pub touched : World → Change → List Name
+touched w (changes.Branch s child) = child ∷ []
+touched w (changes.Commit s) = s ∷ parent_of (scenario w s) ∷ []
+touched w change = named change ∷ []
+
+-- a change leaves every scenario that it doesn't touch as it was, the children of those that it touches among them
+abbrev pub StepLeavesOthers : Type 0
+StepLeavesOthers = (w : World) (user : Name) (change : Change) (other : Name) → list_any (name_eq other) (touched w change) ≡ false → scenario_at (step w user change) other ≡ scenario_at w other
 
 -- after a DROP the scenario is gone
 abbrev pub DropIsGone : Type 0

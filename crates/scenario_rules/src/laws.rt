@@ -1,9 +1,14 @@
 //! What holds of the definitions of scenarios: each law is the contract of a function that does nothing.
-ghost use Rattle.scenario_rules.specs.Laws.{CommitJoins, CommitKeepsOthers, DropIsGone, DropLeavesOthers, LegalIsWhole, RefusedIsAbsent, SameIsEqual, StepKeepsWhole, UpdateShowsParent, WholeContents};
+ghost use Rattle.scenario_rules.specs.Laws.{CommitJoins, CommitKeepsOthers, DropIsGone, DropLeavesOthers, LegalIsWhole, RefusedIsAbsent, SameIsEqual, StepKeepsWhole, StepLeavesOthers, UpdateShowsParent, WholeContents};
 
 /// Records that are the same by their table and fields are equal, and no others are.
 pub fn same_records_are_equal()
     ensures { SameIsEqual }
+{}
+
+/// A change leaves every scenario that it doesn't touch as it was, the children of those that it touches among them.
+pub fn changes_leave_others()
+    ensures { StepLeavesOthers }
 {}
 
 /// A dropped scenario is gone, and every other one is as it was.

@@ -4,6 +4,6 @@
 mod laws;
 
 pub use laws::{
-    commits_join, drops_leave_others, legal_worlds_are_whole, refused_changes_are_absent,
-    same_records_are_equal, updates_show_parents,
+    changes_leave_others, commits_join, drops_leave_others, legal_worlds_are_whole,
+    refused_changes_are_absent, same_records_are_equal, updates_show_parents,
 };

@@ -170,8 +170,8 @@ text_named text form =
     let u8 = uncons u7.1 1 u7.3 in
     let u9 = uncons u8.1 0 u8.3 in
     let is : text ≡ u0.0 ∷ u1.0 ∷ u2.0 ∷ u3.0 ∷ u4.0 ∷ u5.0 ∷ u6.0 ∷ u7.0 ∷ u8.0 ∷ u9.0 ∷ [] =
-      u0.2 ∙ ap (λ t. u0.0 ∷ t) (u1.2 ∙ ap (λ t. u1.0 ∷ t) (u2.2 ∙ ap (λ t. u2.0 ∷ t) (u3.2 ∙ ap (λ t. u3.0 ∷ t) (u4.2 ∙ ap (λ t. u4.0 ∷ t) (u5.2
-      ∙ ap (λ t. u5.0 ∷ t) (u6.2 ∙ ap (λ t. u6.0 ∷ t) (u7.2 ∙ ap (λ t. u7.0 ∷ t) (u8.2 ∙ ap (λ t. u8.0 ∷ t) (u9.2 ∙ ap (λ t. u9.0 ∷ t) (none_left u9.1 u9.3)))))))))) in
+    u0.2 ∙ ap (λ t. u0.0 ∷ t) (u1.2 ∙ ap (λ t. u1.0 ∷ t) (u2.2 ∙ ap (λ t. u2.0 ∷ t) (u3.2 ∙ ap (λ t. u3.0 ∷ t) (u4.2 ∙ ap (λ t. u4.0 ∷ t) (u5.2
+    ∙ ap (λ t. u5.0 ∷ t) (u6.2 ∙ ap (λ t. u6.0 ∷ t) (u7.2 ∙ ap (λ t. u7.0 ∷ t) (u8.2 ∙ ap (λ t. u8.0 ∷ t) (u9.2 ∙ ap (λ t. u9.0 ∷ t) (none_left u9.1 u9.3)))))))))) in
     let P : List ℕ → Type 0 = λ t. has_date_form t ≡ true → t ≡ date_text (record { year = 100 * digits_at t 0 + digits_at t 2; month = digits_at t 5; day = digits_at t 8 }) in
     subst P (sym is) (ten_bytes u0.0 u1.0 u2.0 u3.0 u4.0 u5.0 u6.0 u7.0 u8.0 u9.0) form
 

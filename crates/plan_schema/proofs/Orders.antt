@@ -1,5 +1,5 @@
 -- The derived order of keys is the order of the definitions, and a tree's entries stand in it.
-use Rattle.std.proofs.Common.{◌≡◌, ℕ, List, [], ◌∷◌, true, ◌&&◌, map, refl, sym, ◌∙◌, ap}
+use Rattle.std.proofs.Common.{◌≡◌, ℕ, List, [], ◌∷◌, true, ◌&&◌, map, get_or, refl, sym, ◌∙◌, ap}
 use Rattle.std.specs.Ordering.{nat_cmp, ordering_then, is_lt}
 use Rattle.std.specs.declared.cmp.Ordering.{Ordering}
 use Rattle.std.specs.declared.cmp.Ordering.TheVariants.{Less, Equal, Greater}
@@ -13,7 +13,12 @@ use Rattle.plan_schema.specs.declared.key.Key.{Key}
 use Rattle.plan_schema.specs.declared.key.Key.TheVariants as keys
 use Rattle.plan_schema.specs.declared.key.Record.{Record}
 use Rattle.plan_schema.specs.contracts.key.KeyOrd.TheImpl.{cmp-value}
-use Rattle.plan_schema.specs.Key.{key_cmp}
+use Rattle.plan_schema.specs.Key.{key_cmp, name_cmp}
+use Rattle.plan_schema.specs.Sound.{is_sound_row, are_sound_rows}
+use Rattle.plan_schema.specs.Contents.{with_record}
+use Rattle.std.specs.Ordering.{match_ordering}
+use Rattle.std.proofs.lemmas.Bool.{and_parts, and_from}
+use Rattle.std.proofs.lemmas.Map.Lookups.{CmpEqualImpliesEq, exact_bytes}
 
 abbrev pub derived : Key → Key → Ordering
 derived a b = cmp-value.it a b
@@ -51,3 +56,51 @@ sorted_keys (e ∷ es) h =
     let head = below_keys e.0 es (sorted_head cmp-value.it e.0 (map (λ x. x.0) es) h) in
     let rest = sorted_keys es (sorted_tail cmp-value.it e.0 (map (λ x. x.0) es) h) in
     λ i. head i && rest i
+
+-- keys that compare alike are one ------------------------------------------------------------------------------------------
+
+both_equal : (a b : Ordering) → ordering_then a b ≡ Equal → (a ≡ Equal) × (b ≡ Equal)
+both_equal Equal b h = (refl, h)
+both_equal Less b h = cc
+both_equal Greater b h = cc
+
+fields_exact : CmpEqualImpliesEq (slice_cmp name_cmp)
+fields_exact [] [] h = refl
+fields_exact [] (y ∷ ys) h = cc
+fields_exact (x ∷ xs) [] h = cc
+fields_exact (x ∷ xs) (y ∷ ys) h =
+    let p = both_equal (name_cmp x y) (slice_cmp name_cmp xs ys) h in
+    λ i. exact_bytes x y p.0 i ∷ fields_exact xs ys p.1 i
+
+one_field : (x y : List ℕ) → slice_cmp name_cmp (x ∷ []) (y ∷ []) ≡ Equal → x ≡ y
+one_field x y h = let e = fields_exact (x ∷ []) (y ∷ []) h in cc
+
+two_fields : (x y d e : List ℕ) → slice_cmp name_cmp (x ∷ d ∷ []) (y ∷ e ∷ []) ≡ Equal → (x ≡ y) × (d ≡ e)
+two_fields x y d e h = let p = fields_exact (x ∷ d ∷ []) (y ∷ e ∷ []) h in (cc, cc)
+
+pub exact_keys : CmpEqualImpliesEq key_cmp
+exact_keys keys.Plan keys.Plan h = refl
+exact_keys (keys.Cal x) (keys.Cal y) h = ap keys.Cal (one_field x y h)
+exact_keys (keys.Holiday x d) (keys.Holiday y e) h = let p = two_fields x y (d ∷ []) (e ∷ []) h in λ i. keys.Holiday (p.0 i) (get_or (p.1 i) 0 0)
+exact_keys (keys.Part x) (keys.Part y) h = ap keys.Part (one_field x y h)
+exact_keys (keys.Stock x) (keys.Stock y) h = ap keys.Stock (one_field x y h)
+exact_keys (keys.Demand x d) (keys.Demand y e) h = let p = two_fields x y d e h in λ i. keys.Demand (p.0 i) (p.1 i)
+exact_keys (keys.Receipt x d) (keys.Receipt y e) h = let p = two_fields x y d e h in λ i. keys.Receipt (p.0 i) (p.1 i)
+exact_keys (keys.Bill x d) (keys.Bill y e) h = let p = two_fields x y d e h in λ i. keys.Bill (p.0 i) (p.1 i)
+exact_keys _ _ h = cc
+
+-- rows stay sound where one is put -----------------------------------------------------------------------------------------
+
+pub sound_with_record : (c : List (Key × Record)) (k : Key) (r : Record) → are_sound_rows c ≡ true → is_sound_row k r ≡ true → are_sound_rows (with_record c k r) ≡ true
+sound_with_record [] k r all one = and_from (is_sound_row k r) true one refl
+sound_with_record (e ∷ es) k r all one =
+    let parts = and_parts (is_sound_row e.0 e.1) (are_sound_rows es) all in
+    by_order (sound_with_record es k r parts.1 one) (key_cmp k e.0) refl parts
+  where
+    by_order : are_sound_rows (with_record es k r) ≡ true → (o : Ordering) → key_cmp k e.0 ≡ o → (is_sound_row e.0 e.1 ≡ true) × (are_sound_rows es ≡ true)
+      → are_sound_rows (match_ordering o ((k, r) ∷ e ∷ es) ((e.0, r) ∷ es) (e ∷ with_record es k r)) ≡ true
+    by_order later Less is p = and_from (is_sound_row k r) (are_sound_rows (e ∷ es)) one all
+    by_order later Equal is p =
+        let here : is_sound_row e.0 r ≡ true = ap (λ q. is_sound_row q r) (sym (exact_keys k e.0 is)) ∙ one in
+        and_from (is_sound_row e.0 r) (are_sound_rows es) here p.1
+    by_order later Greater is p = and_from (is_sound_row e.0 e.1) (are_sound_rows (with_record es k r)) p.0 later

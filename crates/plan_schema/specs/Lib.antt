@@ -6,3 +6,4 @@ pub mod Sound
 pub mod Contents
 pub mod Outside
 pub mod Refusals
+pub mod Base

@@ -1,5 +1,5 @@
 //! The records of a scenario.
-ghost use Rattle.std.specs.Prelude.{◌≡◌, ◌==◌, [], true, length, OnOk, OnErr, IfOk};
+ghost use Rattle.std.specs.Prelude.{◌≡◌, ◌==◌, ◌<◌, ◌^◌, [], true, length, OnOk, OnErr, IfOk};
 ghost use Rattle.std.specs.Option.{option_copied, option_map};
 ghost use Rattle.std.specs.List.{slice_get};
 ghost use Rattle.std.specs.Map.Iter.{deref_pair};
@@ -87,6 +87,7 @@ impl Contents {
     pub fn iter(&self) -> Iter<'_, Key, Record>
         ensures rest { result ≡ self.now }
         ensures ordered { is_ordered self.now ≡ true }
+        ensures fits { length self.now < 2 ^ 63 }
     {
         self.records.iter()
     }

@@ -1,13 +1,14 @@
 -- The planned orders of an input: there is one list of them.
-use Rattle.std.proofs.Common.{◌≡◌, ℕ, zero, suc, ◌+◌, ◌-◌, ◌*◌, ◌/◌, ◌%◌, ◌<◌, ◌≤◌, inl, inr, List, [], ◌∷◌, ◌++◌, length, take, get_or, max, refl, sym, ◌∙◌, subst, arith, add-one, below_more, eq-zero-or-pos, le_refl, mul-le-mul_left, ◌==◌, false}
+use Rattle.std.proofs.Common.{◌≡◌, ℕ, zero, suc, ◌+◌, ◌-◌, ◌*◌, ◌/◌, ◌%◌, ◌<◌, ◌≤◌, ◌⊎◌, inl, inr, List, [], ◌∷◌, ◌++◌, length, take, get_or, max, refl, sym, ◌∙◌, ap, subst, arith, add-one, below_more, eq-zero-or-pos, le_refl, mul-le-mul_left, mul_comm, zero-lt-suc, cond, ◌==◌, false}
 use Rattle.std.proofs.lemmas.Bool.{cases_lt}
 use Rattle.std.proofs.lemmas.Bool.Decides.{nat_tests}
-use Rattle.std.proofs.lemmas.List.{take_more_same, take-append-le, take_all, length-append, get_or_append_left}
+use Rattle.std.proofs.lemmas.List.Sums.{sum_by_push}
+use Rattle.std.proofs.lemmas.List.{take_more, take_more_same, take-append-le, take_all, length-append, get_or_append_left}
 use Rattle.std.proofs.Math.Seq.{take-append_seam, get_or-append_seam}
 use Rattle.std.specs.List.{sum, AllByRecursion}
 use Rattle.plan_schema.specs.declared.key.Lot.{Lot}
 use Rattle.plan_schema.specs.declared.key.Lot.TheVariants as lot
-use Rattle.planning_rules.specs.Amounts.{IsLeast, IsAmount, IsMultiple, amount, rounded_up, greatest}
+use Rattle.planning_rules.specs.Amounts.{IsLeast, IsAmount, IsEnough, IsMultiple, amount, rounded_up, greatest}
 use Rattle.planning_rules.specs.Netting.{Input, IsOrder, NettedTo, Netted, days, short_on, later, order_on, planned_to, planned_of, HasStep}
 use Rattle.planning_rules.specs.Laws.{OneNetting}
 
@@ -105,3 +106,21 @@ planned_to_is x h (suc t) = subst (λ k. NettedTo x k (planned_to x t ++ order_o
 
 pub one_netting_is : OneNetting
 one_netting_is x h = (planned_to_is x h (days x), λ p n. netted_unique x p (planned_of x) n (planned_to_is x h (days x)))
+
+-- a day's shortage ------------------------------------------------------------
+
+pub sum_more : (xs : List ℕ) (t : ℕ) → t < length xs → sum (take (t + 1) xs) ≡ sum (take t xs) + get_or xs t 0
+sum_more xs t h = ap sum (take_more xs t 0 h) ∙ sum_by_push (λ v. v) (take t xs) (get_or xs t 0)
+
+pub sum_more_suc : (xs : List ℕ) (t : ℕ) → t < length xs → sum (take (suc t) xs) ≡ sum (take t xs) + get_or xs t 0
+sum_more_suc xs t h = ap (λ k. sum (take k xs)) (sym (add-one t)) ∙ sum_more xs t h
+
+short_plain : (safety stock made balance g s g_all s_all g_more s_more : ℕ) → g_more ≡ g_all + g → s_more ≡ s_all + s → balance + g_all ≡ (stock + s_all) + made
+    → (safety + g_more) - ((stock + s_more) + made) ≡ (safety + g) - (balance + s)
+short_plain safety stock made balance g s g_all s_all g_more s_more eg es e = omega arith
+
+-- what a day is short of, by the balance before it
+pub short_is : (x : Input) (made t balance : ℕ) → t < length x.gross → t < length x.sched → balance + sum (take t x.gross) ≡ (x.stock + sum (take t x.sched)) + made
+    → short_on x made t ≡ (x.safety + get_or x.gross t 0) - (balance + get_or x.sched t 0)
+short_is x made t balance hg hs e =
+    short_plain x.safety x.stock made balance (get_or x.gross t 0) (get_or x.sched t 0) (sum (take t x.gross)) (sum (take t x.sched)) _ _ (sum_more_suc x.gross t hg) (sum_more_suc x.sched t hs) e

@@ -61,7 +61,7 @@ demand_takes fields key first h =
     let part = name_at_takes fields 1 a.0 a.1 in
     let order = name_at_takes fields 2 b.0 b.1 in
     subst (IsKeyOf fields) (same_key _ key c.2)
-      (fields_are fields (codes "DEMAND" ∷ a.0 ∷ b.0 ∷ []) (end_at_takes fields 3 c.0 c.1) (first, (part.0, (order.0, tt))), and_true (and_true part.1 order.1) refl, refl)
+    (fields_are fields (codes "DEMAND" ∷ a.0 ∷ b.0 ∷ []) (end_at_takes fields 3 c.0 c.1) (first, (part.0, (order.0, tt))), and_true (and_true part.1 order.1) refl, refl)
 
 receipt_takes : (fields : List (List ℕ)) (key : Key) → Heads fields (codes "RECEIPT") → two_names fields keys.Receipt ≡ Ok key → IsKeyOf fields key
 unfolding two_names key_fields
@@ -72,7 +72,7 @@ receipt_takes fields key first h =
     let part = name_at_takes fields 1 a.0 a.1 in
     let order = name_at_takes fields 2 b.0 b.1 in
     subst (IsKeyOf fields) (same_key _ key c.2)
-      (fields_are fields (codes "RECEIPT" ∷ a.0 ∷ b.0 ∷ []) (end_at_takes fields 3 c.0 c.1) (first, (part.0, (order.0, tt))), and_true (and_true part.1 order.1) refl, refl)
+    (fields_are fields (codes "RECEIPT" ∷ a.0 ∷ b.0 ∷ []) (end_at_takes fields 3 c.0 c.1) (first, (part.0, (order.0, tt))), and_true (and_true part.1 order.1) refl, refl)
 
 holiday_takes : (fields : List (List ℕ)) (key : Key) → Heads fields (codes "HOLIDAY") → holiday_key_of fields ≡ Ok key → IsKeyOf fields key
 unfolding holiday_key_of key_fields
@@ -83,7 +83,7 @@ holiday_takes fields key first h =
     let calendar = name_at_takes fields 1 a.0 a.1 in
     let day = day_at_takes fields 2 b.0 b.1 in
     subst (IsKeyOf fields) (same_key _ key c.2)
-      (fields_are fields (codes "HOLIDAY" ∷ a.0 ∷ day_text b.0 ∷ []) (end_at_takes fields 3 c.0 c.1) (first, (calendar.0, (day.0, tt))), and_true (and_true calendar.1 day.1) refl, refl)
+    (fields_are fields (codes "HOLIDAY" ∷ a.0 ∷ day_text b.0 ∷ []) (end_at_takes fields 3 c.0 c.1) (first, (calendar.0, (day.0, tt))), and_true (and_true calendar.1 day.1) refl, refl)
 
 bill_takes : (fields : List (List ℕ)) (key : Key) → Heads fields (codes "BILL") → bill_key_of fields ≡ Ok key → IsKeyOf fields key
 unfolding bill_key_of key_fields
@@ -94,7 +94,7 @@ bill_takes fields key first h =
     let parent = name_at_takes fields 1 a.0 a.1 in
     let component = component_at_takes fields 2 a.0 b.0 b.1 in
     subst (IsKeyOf fields) (same_key _ key c.2)
-      (fields_are fields (codes "BILL" ∷ a.0 ∷ b.0 ∷ []) (end_at_takes fields 3 c.0 c.1) (first, (parent.0, (component.0, tt))), and_true (and_true parent.1 component.1) component.2, refl)
+    (fields_are fields (codes "BILL" ∷ a.0 ∷ b.0 ∷ []) (end_at_takes fields 3 c.0 c.1) (first, (parent.0, (component.0, tt))), and_true (and_true parent.1 component.1) component.2, refl)
 
 table_takes : (word : List ℕ) (fields : List (List ℕ)) (key : Key) → Heads fields word → key_of_table word fields ≡ Ok key → IsKeyOf fields key
 unfolding key_of_table

@@ -68,7 +68,7 @@ parts_takes first second lot h =
     let is : Least a.0 b.0 ≡ lot = let e = b.2 in cc in
     let text : codes "MM:" ++ (first ++ 58 ∷ second) ≡ codes "MM:" ++ (decimal a.0 ++ 58 ∷ decimal b.0) = λ i. codes "MM:" ++ (least.0 i ++ 58 ∷ step.0 i) in
     subst (IsLotOf (codes "MM:" ++ (first ++ 58 ∷ second))) is
-      (text, and_true (and_true (le_true a.0 1_000_000_000 least.2) (le_true 1 b.0 step.1)) (le_true b.0 1_000_000_000 step.2))
+    (text, and_true (and_true (le_true a.0 1_000_000_000 least.2) (le_true 1 b.0 step.1)) (le_true b.0 1_000_000_000 step.2))
 
 split_at : (t : List ℕ) (k : ℕ) → k < length t → get_or t k 0 ≡ 58 → take k t ++ 58 ∷ drop (k + 1) t ≡ t
 split_at t k h e =
@@ -180,8 +180,8 @@ week_named text len marks =
     let u5 = uncons u4.1 1 u4.3 in
     let u6 = uncons u5.1 0 u5.3 in
     let is : text ≡ u0.0 ∷ u1.0 ∷ u2.0 ∷ u3.0 ∷ u4.0 ∷ u5.0 ∷ u6.0 ∷ [] =
-      u0.2 ∙ ap (λ t. u0.0 ∷ t) (u1.2 ∙ ap (λ t. u1.0 ∷ t) (u2.2 ∙ ap (λ t. u2.0 ∷ t) (u3.2 ∙ ap (λ t. u3.0 ∷ t) (u4.2 ∙ ap (λ t. u4.0 ∷ t) (u5.2
-      ∙ ap (λ t. u5.0 ∷ t) (u6.2 ∙ ap (λ t. u6.0 ∷ t) (none_left u6.1 u6.3))))))) in
+    u0.2 ∙ ap (λ t. u0.0 ∷ t) (u1.2 ∙ ap (λ t. u1.0 ∷ t) (u2.2 ∙ ap (λ t. u2.0 ∷ t) (u3.2 ∙ ap (λ t. u3.0 ∷ t) (u4.2 ∙ ap (λ t. u4.0 ∷ t) (u5.2
+    ∙ ap (λ t. u5.0 ∷ t) (u6.2 ∙ ap (λ t. u6.0 ∷ t) (none_left u6.1 u6.3))))))) in
     let P : List ℕ → Type 0 = λ t. list_all (λ x. (x == 48) || (x == 49)) t ≡ true → t ≡ mark (works t 0) ∷ mark (works t 1) ∷ mark (works t 2) ∷ mark (works t 3) ∷ mark (works t 4) ∷ mark (works t 5) ∷ mark (works t 6) ∷ [] in
     subst P (sym is) (seven_marks u0.0 u1.0 u2.0 u3.0 u4.0 u5.0 u6.0) marks
 
@@ -213,7 +213,7 @@ week_of_seven : (a b c d e f g : Bool) → week_of (week_text (a ∷ b ∷ c ∷
 unfolding week_of week_text
 week_of_seven a b c d e f g =
     let all : list_all (λ x. (x == 48) || (x == 49)) (mark a ∷ mark b ∷ mark c ∷ mark d ∷ mark e ∷ mark f ∷ mark g ∷ []) ≡ true =
-      and_true (mark_is_mark a) (and_true (mark_is_mark b) (and_true (mark_is_mark c) (and_true (mark_is_mark d) (and_true (mark_is_mark e) (and_true (mark_is_mark f) (and_true (mark_is_mark g) refl)))))) in
+    and_true (mark_is_mark a) (and_true (mark_is_mark b) (and_true (mark_is_mark c) (and_true (mark_is_mark d) (and_true (mark_is_mark e) (and_true (mark_is_mark f) (and_true (mark_is_mark g) refl)))))) in
     ap (λ t. cond t (Ok ((mark a == 49) ∷ (mark b == 49) ∷ (mark c == 49) ∷ (mark d == 49) ∷ (mark e == 49) ∷ (mark f == 49) ∷ (mark g == 49) ∷ [])) (Err rule.Shape)) all
     ∙ (λ i. Ok (mark_works a i ∷ mark_works b i ∷ mark_works c i ∷ mark_works d i ∷ mark_works e i ∷ mark_works f i ∷ mark_works g i ∷ []))
 
@@ -227,8 +227,8 @@ week_again week h =
     let u5 = uncons_marks u4.1 1 u4.3 in
     let u6 = uncons_marks u5.1 0 u5.3 in
     let is : week ≡ u0.0 ∷ u1.0 ∷ u2.0 ∷ u3.0 ∷ u4.0 ∷ u5.0 ∷ u6.0 ∷ [] =
-      u0.2 ∙ ap (λ t. u0.0 ∷ t) (u1.2 ∙ ap (λ t. u1.0 ∷ t) (u2.2 ∙ ap (λ t. u2.0 ∷ t) (u3.2 ∙ ap (λ t. u3.0 ∷ t) (u4.2 ∙ ap (λ t. u4.0 ∷ t) (u5.2
-      ∙ ap (λ t. u5.0 ∷ t) (u6.2 ∙ ap (λ t. u6.0 ∷ t) (none_marked u6.1 u6.3))))))) in
+    u0.2 ∙ ap (λ t. u0.0 ∷ t) (u1.2 ∙ ap (λ t. u1.0 ∷ t) (u2.2 ∙ ap (λ t. u2.0 ∷ t) (u3.2 ∙ ap (λ t. u3.0 ∷ t) (u4.2 ∙ ap (λ t. u4.0 ∷ t) (u5.2
+    ∙ ap (λ t. u5.0 ∷ t) (u6.2 ∙ ap (λ t. u6.0 ∷ t) (none_marked u6.1 u6.3))))))) in
     let P : List Bool → Type 0 = λ w. week_of (week_text w) ≡ Ok w in
     subst P (sym is) (week_of_seven u0.0 u1.0 u2.0 u3.0 u4.0 u5.0 u6.0)
 

@@ -52,8 +52,8 @@ stock_takes fields row first h =
     let part = name_at_takes fields 1 a.0 a.1 in
     let qty = number_at_takes fields 2 0 1_000_000_000 b.0 (omega arith) b.1 in
     read_as fields (keys.Stock a.0) (records.Stock b.0) row (same_row _ _ row c.2)
-      (fields_are fields (codes "STOCK" ∷ a.0 ∷ decimal b.0 ∷ []) (end_at_takes fields 3 c.0 c.1) (first, (part.0, (qty.0, tt))))
-      (and_true (and_true (and_true part.1 refl) refl) (le_true b.0 1_000_000_000 qty.2))
+    (fields_are fields (codes "STOCK" ∷ a.0 ∷ decimal b.0 ∷ []) (end_at_takes fields 3 c.0 c.1) (first, (part.0, (qty.0, tt))))
+    (and_true (and_true (and_true part.1 refl) refl) (le_true b.0 1_000_000_000 qty.2))
 
 demand_takes : (fields : List (List ℕ)) (row : Key × Record) → Heads fields (codes "DEMAND") → demand_of fields ≡ Ok row → IsRowOf fields row
 unfolding demand_of row_fields key_fields record_fields
@@ -68,8 +68,8 @@ demand_takes fields row first h =
     let day = day_at_takes fields 3 c.0 c.1 in
     let qty = number_at_takes fields 4 0 1_000_000_000 d.0 (omega arith) d.1 in
     read_as fields (keys.Demand a.0 b.0) (records.Demand c.0 d.0) row (same_row _ _ row e.2)
-      (fields_are fields (codes "DEMAND" ∷ a.0 ∷ b.0 ∷ day_text c.0 ∷ decimal d.0 ∷ []) (end_at_takes fields 5 e.0 e.1) (first, (part.0, (order.0, (day.0, (qty.0, tt))))))
-      (and_true (and_true (and_true (and_true part.1 order.1) refl) day.1) (le_true d.0 1_000_000_000 qty.2))
+    (fields_are fields (codes "DEMAND" ∷ a.0 ∷ b.0 ∷ day_text c.0 ∷ decimal d.0 ∷ []) (end_at_takes fields 5 e.0 e.1) (first, (part.0, (order.0, (day.0, (qty.0, tt))))))
+    (and_true (and_true (and_true (and_true part.1 order.1) refl) day.1) (le_true d.0 1_000_000_000 qty.2))
 
 receipt_takes : (fields : List (List ℕ)) (row : Key × Record) → Heads fields (codes "RECEIPT") → receipt_of fields ≡ Ok row → IsRowOf fields row
 unfolding receipt_of row_fields key_fields record_fields
@@ -84,8 +84,8 @@ receipt_takes fields row first h =
     let day = day_at_takes fields 3 c.0 c.1 in
     let qty = number_at_takes fields 4 0 1_000_000_000 d.0 (omega arith) d.1 in
     read_as fields (keys.Receipt a.0 b.0) (records.Receipt c.0 d.0) row (same_row _ _ row e.2)
-      (fields_are fields (codes "RECEIPT" ∷ a.0 ∷ b.0 ∷ day_text c.0 ∷ decimal d.0 ∷ []) (end_at_takes fields 5 e.0 e.1) (first, (part.0, (order.0, (day.0, (qty.0, tt))))))
-      (and_true (and_true (and_true (and_true part.1 order.1) refl) day.1) (le_true d.0 1_000_000_000 qty.2))
+    (fields_are fields (codes "RECEIPT" ∷ a.0 ∷ b.0 ∷ day_text c.0 ∷ decimal d.0 ∷ []) (end_at_takes fields 5 e.0 e.1) (first, (part.0, (order.0, (day.0, (qty.0, tt))))))
+    (and_true (and_true (and_true (and_true part.1 order.1) refl) day.1) (le_true d.0 1_000_000_000 qty.2))
 
 holiday_takes : (fields : List (List ℕ)) (row : Key × Record) → Heads fields (codes "HOLIDAY") → holiday_of fields ≡ Ok row → IsRowOf fields row
 unfolding holiday_of row_fields key_fields record_fields
@@ -96,8 +96,8 @@ holiday_takes fields row first h =
     let calendar = name_at_takes fields 1 a.0 a.1 in
     let day = day_at_takes fields 2 b.0 b.1 in
     read_as fields (keys.Holiday a.0 b.0) records.Holiday row (same_row _ _ row c.2)
-      (fields_are fields (codes "HOLIDAY" ∷ a.0 ∷ day_text b.0 ∷ []) (end_at_takes fields 3 c.0 c.1) (first, (calendar.0, (day.0, tt))))
-      (and_true (and_true (and_true (and_true calendar.1 day.1) refl) refl) refl)
+    (fields_are fields (codes "HOLIDAY" ∷ a.0 ∷ day_text b.0 ∷ []) (end_at_takes fields 3 c.0 c.1) (first, (calendar.0, (day.0, tt))))
+    (and_true (and_true (and_true (and_true calendar.1 day.1) refl) refl) refl)
 
 cal_takes : (fields : List (List ℕ)) (row : Key × Record) → Heads fields (codes "CAL") → cal_of fields ≡ Ok row → IsRowOf fields row
 unfolding cal_of row_fields key_fields record_fields
@@ -108,8 +108,8 @@ cal_takes fields row first h =
     let calendar = name_at_takes fields 1 a.0 a.1 in
     let week = week_at_takes fields 2 b.0 b.1 in
     read_as fields (keys.Cal a.0) (records.Cal b.0) row (same_row _ _ row c.2)
-      (fields_are fields (codes "CAL" ∷ a.0 ∷ week_text b.0 ∷ []) (end_at_takes fields 3 c.0 c.1) (first, (calendar.0, (week.0, tt))))
-      (and_true (and_true (and_true calendar.1 refl) refl) week.1)
+    (fields_are fields (codes "CAL" ∷ a.0 ∷ week_text b.0 ∷ []) (end_at_takes fields 3 c.0 c.1) (first, (calendar.0, (week.0, tt))))
+    (and_true (and_true (and_true calendar.1 refl) refl) week.1)
 
 days_at_takes : (fields : List (List ℕ)) (k start days : ℕ) → days_at fields k start ≡ Ok days → (slice_get fields k ≡ Some (decimal days)) × ((nat_le 1 days && nat_le days 400 && nat_le (start + days) 36525) ≡ true)
 unfolding days_at
@@ -129,8 +129,8 @@ plan_takes fields row first h =
     let start = day_at_takes fields 1 a.0 a.1 in
     let days = days_at_takes fields 2 a.0 b.0 b.1 in
     read_as fields keys.Plan (records.Plan a.0 b.0) row (same_row _ _ row c.2)
-      (fields_are fields (codes "PLAN" ∷ day_text a.0 ∷ decimal b.0 ∷ []) (end_at_takes fields 3 c.0 c.1) (first, (start.0, (days.0, tt))))
-      (and_true (and_true refl start.1) days.1)
+    (fields_are fields (codes "PLAN" ∷ day_text a.0 ∷ decimal b.0 ∷ []) (end_at_takes fields 3 c.0 c.1) (first, (start.0, (days.0, tt))))
+    (and_true (and_true refl start.1) days.1)
 
 part_takes : (fields : List (List ℕ)) (row : Key × Record) → Heads fields (codes "PART") → part_of fields ≡ Ok row → IsRowOf fields row
 unfolding part_of row_fields key_fields record_fields
@@ -147,8 +147,8 @@ part_takes fields row first h =
     let safety = number_at_takes fields 4 0 1_000_000_000 d.0 (omega arith) d.1 in
     let calendar = calendar_at_takes fields 5 e.0 e.1 in
     read_as fields (keys.Part a.0) (records.Part b.0 c.0 d.0 e.0) row (same_row _ _ row f.2)
-      (fields_are fields (codes "PART" ∷ a.0 ∷ decimal b.0 ∷ lot_text c.0 ∷ decimal d.0 ∷ calendar_text e.0 ∷ []) (end_at_takes fields 6 f.0 f.1) (first, (name.0, (lead.0, (lot.0, (safety.0, (calendar.0, tt)))))))
-      (and_true (and_true (and_true name.1 refl) calendar.1) (and_true (and_true (le_true b.0 365 lead.2) lot.1) (le_true d.0 1_000_000_000 safety.2)))
+    (fields_are fields (codes "PART" ∷ a.0 ∷ decimal b.0 ∷ lot_text c.0 ∷ decimal d.0 ∷ calendar_text e.0 ∷ []) (end_at_takes fields 6 f.0 f.1) (first, (name.0, (lead.0, (lot.0, (safety.0, (calendar.0, tt)))))))
+    (and_true (and_true (and_true name.1 refl) calendar.1) (and_true (and_true (le_true b.0 365 lead.2) lot.1) (le_true d.0 1_000_000_000 safety.2)))
 
 -- bills -------------------------------------------------------------------------------------------------------------------
 
@@ -192,19 +192,21 @@ span_at_takes : (fields : List (List ℕ)) (k : ℕ) (span : Option Span) → sp
 unfolding span_at
 span_at_takes fields k span h =
     chosen_from (IsSpanAt fields k span) _ _ _ _
-      (λ is e. no_span fields k span is e)
-      (λ _ e. days_of_span_takes fields k span e) h
+    (λ is e. no_span fields k span is e)
+    (λ _ e. days_of_span_takes fields k span e) h
 
 bill_read : (fields : List (List ℕ)) (parent component : List ℕ) (per : ℕ) (span : Option Span) → Heads fields (codes "BILL") → slice_get fields 1 ≡ Some parent → slice_get fields 2 ≡ Some component → slice_get fields 3 ≡ Some (decimal per)
     → is_name parent ≡ true → is_name component ≡ true → not (name_eq parent component) ≡ true → 1 ≤ per → per ≤ 1_000_000 → IsSpanAt fields 4 span
     → IsRowOf fields (keys.Bill parent component, records.Bill per span)
 unfolding IsSpanAt row_fields key_fields record_fields span_fields
-bill_read fields parent component per None word p c q np nc other least most short =
-    (fields_are fields (codes "BILL" ∷ parent ∷ component ∷ decimal per ∷ []) short (word, (p, (c, (q, tt)))),
-     and_true (and_true (and_true (and_true np nc) other) refl) (and_true (and_true (le_true 1 per least) (le_true per 1_000_000 most)) refl))
-bill_read fields parent component per (Some s) word p c q np nc other least most (from, to, short, df, dt, ft) =
-    (fields_are fields (codes "BILL" ∷ parent ∷ component ∷ decimal per ∷ day_text s.from ∷ day_text s.to ∷ []) short (word, (p, (c, (q, (from, (to, tt)))))),
-     and_true (and_true (and_true (and_true np nc) other) (and_true df dt)) (and_true (and_true (le_true 1 per least) (le_true per 1_000_000 most)) ft))
+bill_read fields parent component per None word p c q np nc other least most short = (
+  fields_are fields (codes "BILL" ∷ parent ∷ component ∷ decimal per ∷ []) short (word, (p, (c, (q, tt)))),
+  and_true (and_true (and_true (and_true np nc) other) refl) (and_true (and_true (le_true 1 per least) (le_true per 1_000_000 most)) refl),
+)
+bill_read fields parent component per (Some s) word p c q np nc other least most (from, to, short, df, dt, ft) = (
+  fields_are fields (codes "BILL" ∷ parent ∷ component ∷ decimal per ∷ day_text s.from ∷ day_text s.to ∷ []) short (word, (p, (c, (q, (from, (to, tt)))))),
+  and_true (and_true (and_true (and_true np nc) other) (and_true df dt)) (and_true (and_true (le_true 1 per least) (le_true per 1_000_000 most)) ft),
+)
 
 bill_takes : (fields : List (List ℕ)) (row : Key × Record) → Heads fields (codes "BILL") → bill_of fields ≡ Ok row → IsRowOf fields row
 unfolding bill_of
@@ -217,7 +219,7 @@ bill_takes fields row first h =
     let component = component_at_takes fields 2 a.0 b.0 b.1 in
     let per = number_at_takes fields 3 1 1_000_000 c.0 (omega arith) c.1 in
     subst (IsRowOf fields) (same_row _ _ row d.2)
-      (bill_read fields a.0 b.0 c.0 d.0 first parent.0 component.0 per.0 parent.1 component.1 component.2 per.1 per.2 (span_at_takes fields 4 d.0 d.1))
+    (bill_read fields a.0 b.0 c.0 d.0 first parent.0 component.0 per.0 parent.1 component.1 component.2 per.1 per.2 (span_at_takes fields 4 d.0 d.1))
 
 -- all tables --------------------------------------------------------------------------------------------------------------
 

@@ -6,13 +6,16 @@ mod key_form;
 mod laws;
 mod lot;
 mod number;
+mod open;
 mod row;
 mod write;
 
 pub use key_form::read_key;
 pub use laws::{
-    keys_have_one_spelling, lots_have_one_spelling, numbers_have_one_spelling, rows_have_one_spelling,
+    keys_have_one_spelling, lots_have_one_spelling, numbers_have_one_spelling,
+    rows_have_one_spelling,
 };
 pub use number::{is_digits, read_number};
+pub use open::read_open_record;
 pub use row::read_record;
 pub use write::{RowText, key_bytes, row_bytes, write_key, write_record};

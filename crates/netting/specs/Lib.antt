@@ -1,0 +1,4 @@
+pub mod Shortages
+pub mod Inputs
+pub use Rattle.planning_rules.specs.Netting
+pub use Rattle.plan_schema.specs.Sound

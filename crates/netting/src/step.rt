@@ -1,0 +1,215 @@
+//! The step of one part.
+ghost use Rattle.std.specs.Prelude.{◌≡◌, ℕ, ◌+◌, ◌-◌, ◌<◌, ◌≤◌, [], List, true, false, length, map, All, IsTrue, IfOk, IfErr, slice_index};
+ghost use Rattle.planning_rules.specs.Netting.{IsOrder, Netted, limit, exceeds, balances, releases, late_sum, is_too_large, outcome_from};
+ghost use Rattle.plan_schema.specs.Sound.{is_sound_lot};
+ghost use Rattle.lot_sizing.specs.Shortages.{shortage, InReach};
+ghost use Rattle.netting.specs.Inputs.{IsWithin, given, WhereLarge, told};
+ghost use Rattle.netting.specs.Shortages.{shortages};
+
+use lot_sizing::lot;
+use plan_calendar::Calendar;
+use plan_schema::{Lot, NetFault, Outcome, Qty, Quantities, Series, Steps};
+use std::alloc::{AllocError, Global};
+use std::sync::Arc;
+use std::sync::ledger::Ledger;
+
+/// What a part's step starts from.
+#[derive(Drop)]
+pub struct Input {
+    pub stock: Qty,
+    pub safety: Qty,
+    pub lot: Lot,
+    pub lead: u16,
+    pub calendar: Calendar,
+    pub gross: Quantities,
+    pub sched: Quantities,
+}
+
+/// The greatest gross, planned or release number.
+const LIMIT: Qty = 1_000_000_000_000_000;
+
+/// How much more is asked than there is, below 0 where there is more.
+fn difference(asked: u64, there: u64) -> i64
+    requires asked { asked ≤ 1000000000000000000 }
+    requires there { there ≤ 1000000000000000000 }
+    ensures part { shortage result ≡ asked - there }
+    ensures reach { InReach result }
+{
+    asked as i64 - there as i64
+}
+
+/// By how much each day falls short of safety, where nothing is planned.
+fn fill_short(short: &mut [i64], balance: u64, safety: u64, gross: &[u64], sched: &[u64])
+    requires days { length gross.now ≤ 400 }
+    requires same { length sched.now ≡ length gross.now }
+    requires room { length short.old ≡ length gross.now }
+    requires balance { balance ≤ 600000000000000000 }
+    requires safety { safety ≤ 1000000000 }
+    requires gross { All (λ g. g ≤ 1000000000000000) gross.now }
+    requires sched { All (λ s. s ≤ 200000000000000) sched.now }
+    ensures all { map shortage short.new ≡ shortages balance safety gross.now sched.now }
+    ensures reach { All InReach short.new }
+{
+    let mut asked = safety;
+    let mut there = balance;
+    for day in 0..gross.len() {
+        asked += gross[day];
+        there += sched[day];
+        short[day] = difference(asked, there);
+    }
+}
+
+/// The order of a day, from the balance before it, the days from it on, and a place for as many shortages.
+fn order_of(
+    rule: &Lot,
+    balance: u64,
+    safety: u64,
+    gross: &[u64],
+    sched: &[u64],
+    short: &mut [i64],
+) -> u64
+    requires some { 1 ≤ length gross.now }
+    requires days { length gross.now ≤ 400 }
+    requires same { length sched.now ≡ length gross.now }
+    requires room { length short.old ≡ length gross.now }
+    requires balance { balance ≤ 600000000000000000 }
+    requires safety { safety ≤ 1000000000 }
+    requires rule { is_sound_lot rule.now ≡ true }
+    requires gross { All (λ g. g ≤ 1000000000000000) gross.now }
+    requires sched { All (λ s. s ≤ 200000000000000) sched.now }
+    ensures order { IsOrder (record { stock = balance; safety = safety; lot = rule.now; lead = 0; calendar = []; gross = gross.now; sched = sched.now }) 0 0 result }
+    ensures covers { safety + slice_index gross.now 0 ≤ (balance + slice_index sched.now 0) + result }
+{
+    if safety + gross[0] <= balance + sched[0] {
+        return 0;
+    }
+    fill_short(short, balance, safety, gross, sched);
+    lot(rule, short)
+}
+
+/// Orders and balances in order of days.
+#[derive(Drop)]
+struct Days {
+    planned: Vec<u64>,
+    balance: Vec<u64>,
+}
+
+/// The orders of all days, and the balances.
+fn plan_days(alloc: Global, input: &Input) -> Result<Days, NetFault>
+    requires { IsWithin input.now }
+    ensures netted { IfOk result (λ o. Netted (given input.now) o.planned.items) }
+    ensures small { IfOk result (λ o. All (λ n. n ≤ limit) o.planned.items) }
+    ensures balance { IfOk result (λ o. o.balance.items ≡ balances (given input.now) o.planned.items) }
+    ensures large { IfErr result (λ e. WhereLarge e ((p : List ℕ) → Netted (given input.now) p → IsTrue (exceeds p))) }
+{
+    let gross = input.gross.as_slice();
+    let sched = input.sched.as_slice();
+    let mut short = [0i64; 400];
+    let mut planned = Vec::new(alloc);
+    let mut balances = Vec::new(alloc);
+    let mut balance = input.stock;
+    for day in 0..gross.len() {
+        let room = gross.len() - day;
+        let order = order_of(
+            &input.lot,
+            balance,
+            input.safety,
+            &gross[day..],
+            &sched[day..],
+            &mut short[..room],
+        );
+        if order > LIMIT {
+            return Err(NetFault::TooLarge);
+        }
+        balance = balance + sched[day] + order - gross[day];
+        if planned.push(order).is_err() {
+            return Err(NetFault::Memory);
+        }
+        if balances.push(balance).is_err() {
+            return Err(NetFault::Memory);
+        }
+    }
+    Ok(Days {
+        planned,
+        balance: balances,
+    })
+}
+
+/// What is released on each day, and how much of it is late.
+fn release_days(
+    alloc: Global,
+    calendar: &Calendar,
+    lead: u16,
+    planned: &[u64],
+) -> Result<(Vec<u64>, u64), AllocError>
+    requires days { length planned.now ≤ 400 }
+    requires calendar { length calendar.now ≡ length planned.now }
+    requires small { All (λ n. n ≤ limit) planned.now }
+    ensures release { IfOk result (λ r. r.0.items ≡ releases calendar.now lead planned.now) }
+    ensures late { IfOk result (λ r. r.1 ≡ late_sum calendar.now lead planned.now) }
+{
+    let mut release = vec![in alloc; 0u64; planned.len()]?;
+    let mut late: u64 = 0;
+    for day in 0..planned.len() {
+        let (at, is_late) = calendar.back(day as u16, lead);
+        let on = at as usize;
+        release[on] += planned[day];
+        if is_late {
+            late += planned[day];
+        }
+    }
+    Ok((release, late))
+}
+
+/// Whether a number exceeds the limit.
+fn exceeds_limit(numbers: &[u64]) -> bool
+    ensures { result ≡ exceeds numbers.now }
+{
+    numbers.iter().any(|n| *n > LIMIT)
+}
+
+/// The outcome of a part's step.
+pub fn net<L: Ledger>(
+    alloc: Global,
+    input: &Input,
+    steps: &mut Steps<L>,
+) -> Result<Outcome, NetFault>
+    requires { IsWithin input.now }
+    ensures netted { IfOk result (λ o. Netted (given input.now) o.planned) }
+    ensures outcome { IfOk result (λ o. told o ≡ outcome_from (given input.now) o.planned) }
+    ensures fits { IfOk result (λ o. is_too_large (given input.now) o.planned ≡ false) }
+    ensures large { IfErr result (λ e. WhereLarge e ((p : List ℕ) → Netted (given input.now) p → IsTrue (is_too_large (given input.now) p))) }
+    ensures steps { steps.new ≡ steps.old + 1 }
+{
+    steps.tick();
+    let days = plan_days(alloc, input)?;
+    let Ok((release, late)) = release_days(
+        alloc,
+        &input.calendar,
+        input.lead,
+        days.planned.as_slice(),
+    ) else {
+        return Err(NetFault::Memory);
+    };
+    if exceeds_limit(release.as_slice()) {
+        return Err(NetFault::TooLarge);
+    }
+    let Ok(gross) = input.gross.copy() else {
+        return Err(NetFault::Memory);
+    };
+    let Ok(sched) = input.sched.copy() else {
+        return Err(NetFault::Memory);
+    };
+    let Ok(release) = Arc::new(alloc, Series::from_vec(release)) else {
+        return Err(NetFault::Memory);
+    };
+    let Days { planned, balance } = days;
+    Ok(Outcome {
+        gross,
+        sched,
+        planned: Series::from_vec(planned),
+        balance: Series::from_vec(balance),
+        release,
+        late,
+    })
+}

@@ -1,0 +1,6 @@
+use Rattle.std.proofs.Common.{◌≡◌, ℕ, ◌+◌, ◌<◌, [], false, get_or}
+use Rattle.plan_calendar.specs.Weeks.{week_works}
+use Rattle.plan_calendar.proofs.calendar.weeks.Given as goal
+
+abbrev pub invariant-loop-day : goal.invariant-loop-day
+invariant-loop-day l = (t : ℕ) → t < l.day → get_or l.mark-items t false ≡ week_works l.week [] (l.start + t)

@@ -1,0 +1,2 @@
+pub mod Weeks
+pub use Rattle.planning_rules.specs.Days

@@ -1,1 +1,14 @@
 pub mod NettedLaws
+pub mod Membership
+pub mod Counting
+pub mod Parents
+pub mod Settling
+pub mod PlanLaws
+pub mod AncestorLaws
+pub mod LevelLaws
+pub mod Planned
+pub mod LeastNames
+pub mod Reach
+pub mod PegLaws
+pub mod PromiseLaws
+pub mod Worked

@@ -1,5 +1,5 @@
 -- The planned orders of an input: there is one list of them.
-use Rattle.std.proofs.Common.{◌≡◌, ℕ, zero, suc, ◌+◌, ◌-◌, ◌*◌, ◌/◌, ◌%◌, ◌<◌, ◌≤◌, ◌⊎◌, inl, inr, List, [], ◌∷◌, ◌++◌, length, take, get_or, max, refl, sym, ◌∙◌, ap, subst, arith, add-one, below_more, eq-zero-or-pos, le_refl, mul-le-mul_left, mul_comm, zero-lt-suc, cond, ◌==◌, false}
+use Rattle.std.proofs.Common.{◌≡◌, ℕ, zero, suc, ◌+◌, ◌-◌, ◌*◌, ◌/◌, ◌%◌, ◌<◌, ◌≤◌, inl, inr, List, [], ◌∷◌, ◌++◌, length, take, get_or, max, refl, sym, ◌∙◌, ap, subst, arith, add-one, below_more, eq-zero-or-pos, le_refl, mul-le-mul_left, ◌==◌, false}
 use Rattle.std.proofs.lemmas.Bool.{cases_lt}
 use Rattle.std.proofs.lemmas.Bool.Decides.{nat_tests}
 use Rattle.std.proofs.lemmas.List.Sums.{sum_by_push}
@@ -8,7 +8,7 @@ use Rattle.std.proofs.Math.Seq.{take-append_seam, get_or-append_seam}
 use Rattle.std.specs.List.{sum, AllByRecursion}
 use Rattle.plan_schema.specs.declared.key.Lot.{Lot}
 use Rattle.plan_schema.specs.declared.key.Lot.TheVariants as lot
-use Rattle.planning_rules.specs.Amounts.{IsLeast, IsAmount, IsEnough, IsMultiple, amount, rounded_up, greatest}
+use Rattle.planning_rules.specs.Amounts.{IsLeast, IsAmount, IsMultiple, amount, rounded_up, greatest}
 use Rattle.planning_rules.specs.Netting.{Input, IsOrder, NettedTo, Netted, days, short_on, later, order_on, planned_to, planned_of, HasStep}
 use Rattle.planning_rules.specs.Laws.{OneNetting}
 

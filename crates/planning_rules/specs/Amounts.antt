@@ -1,6 +1,6 @@
 -- Lot amounts: how much is ordered on a day that falls short, as the least amount that is enough (the exact forms are this
 -- product's own).
-use Rattle.std.specs.Prelude.{◌≡◌, ℕ, zero, suc, ◌+◌, ◌-◌, ◌*◌, ◌/◌, ◌<◌, ◌≤◌, max, List, [], ◌∷◌, take, All}
+use Rattle.std.specs.Prelude.{◌≡◌, ℕ, ◌+◌, ◌-◌, ◌*◌, ◌/◌, ◌≤◌, max, List, [], ◌∷◌, take}
 use Rattle.std.specs.List.{AllByRecursion}
 use Rattle.plan_schema.specs.declared.key.Lot.{Lot}
 use Rattle.plan_schema.specs.declared.key.Lot.TheVariants.{Exact, Fixed, Least, Period}

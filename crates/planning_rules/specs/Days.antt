@@ -1,5 +1,5 @@
 -- The horizon, the days on which dates count, working days, and the day on which an order is released.
-use Rattle.std.specs.Prelude.{◌≡◌, ℕ, zero, suc, ◌+◌, ◌-◌, List, [], ◌∷◌, Bool, true, false, ◌&&◌, ◌==◌, Option, Some, None, filter, slice_get, slice_index_or, is_none, unwrap_or, map}
+use Rattle.std.specs.Prelude.{ℕ, zero, suc, ◌+◌, ◌-◌, List, [], ◌∷◌, Bool, true, false, ◌&&◌, ◌==◌, Option, Some, None, filter, slice_get, slice_index_or, is_none, unwrap_or, map}
 use Rattle.std.specs.List.{range_with_len}
 use Rattle.plan_schema.specs.declared.name.Name.{Name}
 use Rattle.plan_schema.specs.declared.key.Key.TheVariants as keys

@@ -1,12 +1,17 @@
 -- What holds of the definitions of planning.
-use Rattle.std.specs.Prelude.{◌≡◌, ℕ, List, true, false, Option, Some, None, ◌<◌, ◌≤◌, length, drop, sum_by, ◌↔◌}
-use Rattle.std.specs.List.{AllByRecursion}
+use Rattle.std.specs.Prelude.{◌≡◌, ℕ, List, Bool, true, false, not, ◌||◌, ◌&&◌, Option, Some, None, is_some, is_none, ◌<◌, length, sum_by, Contains}
+use Rattle.std.specs.List.{AllByRecursion, list_any, list_all}
+use Rattle.std.specs.Ordering.{is_lt}
 use Rattle.plan_schema.specs.declared.name.Name.{Name}
-use Rattle.plan_schema.specs.Contents.{Contents}
+use Rattle.plan_schema.specs.declared.key.Key.TheVariants as keys
+use Rattle.plan_schema.specs.declared.refusal.Refusal.{Refusal}
+use Rattle.plan_schema.specs.declared.refusal.Refusal.TheVariants as refusals
+use Rattle.plan_schema.specs.Key.{name_cmp}
+use Rattle.plan_schema.specs.Contents.{Contents, record_at}
 use Rattle.planning_rules.specs.Bills.{bills_of, is_above, is_ancestor, level}
 use Rattle.planning_rules.specs.Netting.{Input, HasStep, Netted, planned_of}
 use Rattle.planning_rules.specs.Plan.{Known, plan, plan_step, gross_on}
-use Rattle.planning_rules.specs.Refused.{in_reach, is_cyclic, least_name}
+use Rattle.planning_rules.specs.Refused.{in_reach, is_cyclic, is_part, lacks_calendar, least_name, level_refusal, plan_refusal}
 use Rattle.planning_rules.specs.Pegs.{pegs_from, peg_qty}
 use Rattle.planning_rules.specs.Promise.{IsPromise, least_of}
 
@@ -34,6 +39,10 @@ NoLevelIsCyclic = (c : Contents) (n : Name) → level c n ≡ None → (y : Name
 abbrev pub CyclicHasNoLevel : Type 0
 CyclicHasNoLevel = (c : Contents) (n a : Name) → is_ancestor c n a ≡ true → is_ancestor c a a ≡ true → level c n ≡ None
 
+-- a name without a level is not planned
+abbrev pub NoLevelIsNoPlan : Type 0
+NoLevelIsNoPlan = (c : Contents) (n : Name) → level c n ≡ None → plan c n ≡ None
+
 -- the pegs of a day sum to its gross requirements
 abbrev pub PegsAreGross : Type 0
 PegsAreGross = (plans : Name → Option Known) (c : Contents) (n : Name) (t : ℕ) → sum_by peg_qty (pegs_from plans c n t) ≡ gross_on plans c n t
@@ -41,3 +50,39 @@ PegsAreGross = (plans : Name → Option Known) (c : Contents) (n : Name) (t : �
 -- the least balance from a day on is the greatest promise of that day
 abbrev pub LeastIsPromise : Type 0
 LeastIsPromise = (balances : List ℕ) → 0 < length balances → IsPromise balances (least_of balances)
+
+-- least is the least name of a list that passes a test: it stands in the list and passes, and no name of the list that passes
+-- precedes it by bytes
+pub record IsLeastPassing (test : Name → Bool) (names : List Name) (least : Name) : Type 0 where
+  pub among : Contains names least
+  pub passes : test least ≡ true
+  pub first : (n : Name) → Contains names n → test n ≡ true → is_lt (name_cmp n least) ≡ false
+
+-- none where no name of the list passes, else the least one that does
+abbrev pub IsLeastOf : (Name → Bool) → List Name → Option Name → Type 0
+IsLeastOf test names None = (n : Name) → Contains names n → test n ≡ false
+IsLeastOf test names (Some least) = IsLeastPassing test names least
+
+-- the least name is that
+abbrev pub LeastNameIsLeast : Type 0
+LeastNameIsLeast = (test : Name → Bool) (names : List Name) → IsLeastOf test names (least_name test names)
+
+-- a name in reach of asked names is its own ancestor exactly where some asked name has no level
+abbrev pub CyclicIsNoLevel : Type 0
+CyclicIsNoLevel = (c : Contents) (asked : List Name) → is_some (least_name (is_cyclic c) (in_reach c asked)) ≡ list_any (λ n. is_none (level c n)) asked
+
+-- a level is refused exactly where the asked name is no part or has no level
+abbrev pub LevelIsRefused : Type 0
+LevelIsRefused = (c : Contents) (n : Name) → is_some (level_refusal c n) ≡ (not (is_part c n) || is_none (level c n))
+
+abbrev pub says_cyclic : Option Refusal → Bool
+says_cyclic (Some (refusals.Cyclic name)) = true
+says_cyclic _ = false
+
+-- each name in reach is a part that has its calendar
+abbrev pub reach_is_whole : Contents → List Name → Bool
+reach_is_whole c asked = list_all (λ n. is_part c n && not (lacks_calendar c (record_at c (keys.Part n)))) (in_reach c asked)
+
+-- there a plan is refused as cyclic exactly where some asked name has no level
+abbrev pub PlanIsCyclic : Type 0
+PlanIsCyclic = (c : Contents) (asked : List Name) → reach_is_whole c asked ≡ true → says_cyclic (plan_refusal c asked) ≡ list_any (λ n. is_none (level c n)) asked

@@ -1,6 +1,6 @@
 -- Netting (Orlicky's record, with safety stock as a floor of the balance): the planned orders of a part, as a relation on whole
 -- lists. There is no negative number: a day is short by what is asked up to it less what there is up to it, and `-` stops at 0.
-use Rattle.std.specs.Prelude.{◌≡◌, ℕ, zero, suc, ◌+◌, ◌-◌, ◌<◌, ◌≤◌, List, [], ◌∷◌, ◌++◌, Bool, true, false, cond, ◌==◌, nat_lt, nat_le, ◌||◌, if◌then◌else◌, length, take, map, slice_index, sum, sum_by}
+use Rattle.std.specs.Prelude.{◌≡◌, ℕ, zero, suc, ◌+◌, ◌-◌, ◌<◌, ◌≤◌, List, [], ◌∷◌, ◌++◌, Bool, ◌==◌, nat_lt, ◌||◌, if◌then◌else◌, length, take, map, slice_index, sum}
 use Rattle.std.specs.List.{range_with_len, list_any}
 use Rattle.plan_schema.specs.declared.key.Lot.{Lot}
 use Rattle.plan_schema.specs.declared.key.Lot.TheVariants as lot

@@ -1,5 +1,5 @@
 -- Single-level pegging: where the gross requirements of a day come from.
-use Rattle.std.specs.Prelude.{◌≡◌, ℕ, ◌-◌, ◌+◌, List, [], ◌++◌, Bool, ◌||◌, nat_lt, nat_le, Option, map, filter}
+use Rattle.std.specs.Prelude.{ℕ, ◌+◌, List, ◌++◌, ◌||◌, nat_lt, nat_le, Option, map, filter}
 use Rattle.plan_schema.specs.declared.name.Name.{Name}
 use Rattle.plan_schema.specs.declared.refusal.Refusal.{Refusal}
 use Rattle.plan_schema.specs.declared.refusal.Refusal.TheVariants as refusals

@@ -1,5 +1,5 @@
 -- The plan of all names.
-use Rattle.std.specs.Prelude.{◌≡◌, ℕ, zero, suc, ◌+◌, ◌*◌, List, [], ◌∷◌, Bool, true, false, if◌then◌else◌, Option, Some, None, map, sum_by, slice_index, is_some}
+use Rattle.std.specs.Prelude.{ℕ, zero, suc, ◌+◌, ◌*◌, List, [], Bool, true, false, if◌then◌else◌, Option, Some, None, map, sum_by, slice_index, is_some}
 use Rattle.std.specs.List.{range_with_len, list_all, filter_map}
 use Rattle.plan_schema.specs.declared.name.Name.{Name}
 use Rattle.plan_schema.specs.declared.key.Key.{Key}

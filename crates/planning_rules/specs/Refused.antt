@@ -1,5 +1,5 @@
 -- Why a plan is refused.
-use Rattle.std.specs.Prelude.{ℕ, List, [], ◌∷◌, ◌++◌, Bool, true, false, not, if◌then◌else◌, Option, Some, None, is_some, fold, filter}
+use Rattle.std.specs.Prelude.{List, [], ◌∷◌, ◌++◌, Bool, true, false, not, if◌then◌else◌, Option, Some, None, is_some, fold, filter}
 use Rattle.std.specs.List.{list_any}
 use Rattle.std.specs.Ordering.{is_lt}
 use Rattle.plan_schema.specs.declared.name.Name.{Name}
@@ -12,7 +12,6 @@ use Rattle.plan_schema.specs.Key.{name_cmp}
 use Rattle.plan_schema.specs.Contents.{Contents, record_at}
 use Rattle.plan_schema.specs.Refusals.{first_of, where_so, about}
 use Rattle.planning_rules.specs.Bills.{all_parents, is_ancestor}
-use Rattle.planning_rules.specs.Days.{start_of, days_of}
 use Rattle.planning_rules.specs.Plan.{Known, Large, plan, has_calendar}
 
 -- the earlier of two names by bytes

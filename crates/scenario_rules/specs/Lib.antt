@@ -1,0 +1,12 @@
+pub mod Same
+pub mod World
+pub mod Steps
+pub mod Refused
+pub mod Journal
+pub mod Whole
+pub mod Laws
+pub use Rattle.plan_schema.specs.Key
+pub use Rattle.plan_schema.specs.Cell
+pub use Rattle.plan_schema.specs.Contents
+pub use Rattle.plan_schema.specs.Sound
+pub use Rattle.plan_schema.specs.Refusals

@@ -15,7 +15,10 @@ mod steady;
 mod steady_shelf;
 
 pub use bytes::Bytes;
-pub use cutter::{Cut, Cutter};
+pub use cutter::{
+    Cut, Cutter, kept_lines_are_lines, lines_after_nothing_are_lines_of_all,
+    lines_of_pieces_are_lines_of_all,
+};
 pub use files::{FileIn, FileOut, FileShelf};
 pub use memory::{Calls, MemoryIn, MemoryOut};
 pub use memory_shelf::{MemoryShelf, memory_shelves_tell};

@@ -107,7 +107,7 @@ abbrev pub changed_scenario : World → Change → Name
 changed_scenario w (changes.Commit s) = parent_of (scenario w s)
 changed_scenario w change = named change
 
--- what it holds after the change
+-- what it holds after the change; nothing after a DROP
 abbrev pub changed_contents : World → Name → Change → Contents
 changed_contents w user change = contents_in (step w user change) (changed_scenario w change)
 

@@ -46,7 +46,7 @@ begin_with contents = (root, root_with contents) ∷ []
 abbrev pub scenario_at : World → Name → Option Scenario
 scenario_at w s = lookup (is_at (name_cmp s)) w
 
--- the scenario of a name that is there; an empty one else, which no rule looks at
+-- the scenario of a name that is there; an empty one else
 abbrev pub scenario : World → Name → Scenario
 scenario w s = unwrap_or (scenario_at w s) (root_with [])
 

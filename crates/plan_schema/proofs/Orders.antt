@@ -1,6 +1,6 @@
 -- The derived order of keys is the order of the definitions, and a tree's entries stand in it.
-use Rattle.std.proofs.Common.{◌≡◌, ℕ, List, [], ◌∷◌, true, ◌&&◌, map, get_or, refl, sym, ◌∙◌, ap}
-use Rattle.std.specs.Ordering.{nat_cmp, ordering_then, is_lt}
+use Rattle.std.proofs.Common.{◌≡◌, ℕ, List, [], ◌∷◌, true, ◌&&◌, map, get_or, Some, cond, refl, sym, ◌∙◌, ap}
+use Rattle.std.specs.Ordering.{nat_cmp, ordering_then, is_lt, is_eq}
 use Rattle.std.specs.declared.cmp.Ordering.{Ordering}
 use Rattle.std.specs.declared.cmp.Ordering.TheVariants.{Less, Equal, Greater}
 use Rattle.std.specs.Cmp.Lexicographic.{slice_cmp}
@@ -15,7 +15,7 @@ use Rattle.plan_schema.specs.declared.key.Record.{Record}
 use Rattle.plan_schema.specs.contracts.key.KeyOrd.TheImpl.{cmp-value}
 use Rattle.plan_schema.specs.Key.{key_cmp, name_cmp}
 use Rattle.plan_schema.specs.Sound.{is_sound_row, are_sound_rows}
-use Rattle.plan_schema.specs.Contents.{with_record}
+use Rattle.plan_schema.specs.Contents.{with_record, record_at}
 use Rattle.std.specs.Ordering.{match_ordering}
 use Rattle.std.proofs.lemmas.Bool.{and_parts, and_from}
 use Rattle.std.proofs.lemmas.Map.Lookups.{CmpEqualImpliesEq, exact_bytes}
@@ -104,3 +104,15 @@ sound_with_record (e ∷ es) k r all one =
         let here : is_sound_row e.0 r ≡ true = ap (λ q. is_sound_row q r) (sym (exact_keys k e.0 is)) ∙ one in
         and_from (is_sound_row e.0 r) (are_sound_rows es) here p.1
     by_order later Greater is p = and_from (is_sound_row e.0 e.1) (are_sound_rows (with_record es k r)) p.0 later
+
+-- a record that is there is sound under its key
+pub sound_at : (c : List (Key × Record)) (k : Key) (r : Record) → are_sound_rows c ≡ true → record_at c k ≡ Some r → is_sound_row k r ≡ true
+sound_at [] k r all is = absurd (let never : ⊥ = cc in never)
+sound_at (e ∷ es) k r all is =
+    let parts = and_parts (is_sound_row e.0 e.1) (are_sound_rows es) all in
+    by_order (λ found. sound_at es k r parts.1 found) (key_cmp k e.0) refl is parts.0
+  where
+    by_order : (record_at es k ≡ Some r → is_sound_row k r ≡ true) → (o : Ordering) → key_cmp k e.0 ≡ o → cond (is_eq o) (Some e.1) (record_at es k) ≡ Some r → is_sound_row e.0 e.1 ≡ true → is_sound_row k r ≡ true
+    by_order later Less at found here = later found
+    by_order later Equal at found here = ap (λ q. is_sound_row q r) (exact_keys k e.0 at) ∙ ap (is_sound_row e.0) (let same : r ≡ e.1 = cc in same) ∙ here
+    by_order later Greater at found here = later found

@@ -1,5 +1,5 @@
 -- Dates `YYYY-MM-DD` from 2000-01-01 to 2099-12-31. Days are numbered from 0, which is 2000-01-01, to 36,524.
-use Rattle.std.specs.Prelude.{ℕ, zero, suc, ◌+◌, ◌-◌, ◌*◌, ◌≡◌, ◌≤◌, ◌/◌, ◌%◌, Bool, ◌&&◌, ◌==◌, nat_lt, nat_le, List, [], ◌∷◌, length, slice_index, Result, Ok, Err, if◌then◌else◌, pos, ◌-ℤ◌, unsigned_abs}
+use Rattle.std.specs.Prelude.{ℕ, zero, suc, ◌+◌, ◌-◌, ◌*◌, ◌≡◌, ◌≤◌, ◌/◌, ◌%◌, Bool, ◌&&◌, ◌==◌, nat_lt, nat_le, List, [], ◌∷◌, length, slice_index, Option, Some, None, Result, Ok, Err, if◌then◌else◌, pos, ◌-ℤ◌, unsigned_abs}
 use Rattle.std.specs.Char.{is_ascii_digit}
 use Rattle.jiff_core.specs.Calendar.{days_in_month, days_from_civil}
 use Rattle.jiff_core.specs.declared.civil.date.Date.{Date as Plain}
@@ -73,3 +73,7 @@ pub record HasParts (date : Plain) (c : Civil) : Type 0 where
 -- the text of a day
 unfoldable pub day_text : ℕ → List ℕ
 day_text n = date_text (date_of n)
+
+-- the day so many days later, where it isn't past the last
+unfoldable pub later : ℕ → ℕ → Option ℕ
+later day days = if nat_lt (day + days) 36525 then Some (day + days) else None

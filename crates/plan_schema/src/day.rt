@@ -54,6 +54,19 @@ impl Day {
         self.number
     }
 
+    /// The day so many days later, where it isn't past 2099-12-31.
+    #[tactic(auto, unfolding(crate::specs::Day::later))]
+    pub fn later(&self, days: u16) -> Option<Day>
+        ensures { result ≡ spec.later self.now days }
+    {
+        let number = self.number + u32::from(days);
+        if number < 36_525 {
+            Some(Day { number })
+        } else {
+            None
+        }
+    }
+
     /// Tells a caller that the number is a day's.
     pub fn holds(&self)
         ensures { is_day self.now ≡ true }

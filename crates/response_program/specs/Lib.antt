@@ -1,0 +1,2 @@
+pub use Rattle.plan_schema.specs.Outside
+pub use Rattle.plan_schema.specs.Base

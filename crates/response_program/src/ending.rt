@@ -1,0 +1,150 @@
+//! How a run ends.
+ghost use Rattle.std.specs.Prelude.{◌≡◌, ◌≤◌, length};
+ghost use Rattle.arrayvec.specs.ArrayVec.{array_vec_len};
+
+use byte_lines::{Served, ShelfFault, Sink, SinkFault, write_all};
+use plan_import::ImportFault;
+use plan_schema::{Room, Rule};
+use row_text::{RowText, push_number, push_word};
+
+/// How a run ends, with the name of the file that failed.
+#[derive(Clone, Copy)]
+pub enum Ending<'a> {
+    Done,
+    Memory,
+    Base(ImportFault),
+    Open(&'a str),
+    Read(&'a str),
+    Write(&'a str),
+    Limit,
+}
+
+impl<'a> Ending<'a> {
+    /// What a part of a shelf that can't be had comes to.
+    pub fn of_open(name: &'a str, fault: ShelfFault) -> Ending<'a> {
+        match fault {
+            ShelfFault::Failed => Ending::Open(name),
+            ShelfFault::Memory => Ending::Memory,
+        }
+    }
+
+    /// What a base that wasn't read comes to.
+    pub fn of_import(name: &'a str, fault: ImportFault) -> Ending<'a> {
+        match fault {
+            ImportFault::Read => Ending::Read(name),
+            ImportFault::Memory => Ending::Memory,
+            fault => Ending::Base(fault),
+        }
+    }
+
+    /// What the end of the session comes to.
+    pub fn of_served(input: &'a str, output: &'a str, served: Served) -> Ending<'a> {
+        match served {
+            Served::Ended(_) => Ending::Done,
+            Served::ReadFault => Ending::Read(input),
+            Served::WriteFault => Ending::Write(output),
+            Served::Limit => Ending::Limit,
+            Served::Memory | Served::Worn | Served::BookFault => Ending::Memory,
+        }
+    }
+
+    /// The ending after something more was written under a name. Want of memory tops all; else the first fault stays.
+    pub fn and_written(self, name: &'a str, written: Result<(), SinkFault>) -> Ending<'a> {
+        match written {
+            Ok(()) => self,
+            Err(SinkFault::Memory) => Ending::Memory,
+            Err(SinkFault::Failed) => match self {
+                Ending::Done => Ending::Write(name),
+                ending => ending,
+            },
+        }
+    }
+
+    /// The status of the program.
+    pub fn status(&self) -> u8 {
+        match self {
+            Ending::Done => 0,
+            Ending::Memory => 1,
+            Ending::Base(_) => 3,
+            Ending::Open(_) => 4,
+            Ending::Read(_) => 5,
+            Ending::Write(_) => 6,
+            Ending::Limit => 7,
+        }
+    }
+
+    /// Writes the line that tells it.
+    pub fn tell<K: Sink>(&self, console: &mut K) -> Result<(), SinkFault>
+        ensures { K.label console.new ≡ K.label console.old }
+    {
+        match self {
+            Ending::Done => write_all(console, b"entries 0 netted 0 reused 0 dropped 0\n"),
+            Ending::Memory => write_all(console, b"memory\n"),
+            Ending::Base(fault) => write_all(console, base_line(*fault).as_slice()),
+            Ending::Open(name) => tell_of(console, b"open ", name),
+            Ending::Read(name) => tell_of(console, b"read ", name),
+            Ending::Write(name) => tell_of(console, b"write ", name),
+            Ending::Limit => write_all(console, b"limit 1\n"),
+        }
+    }
+}
+
+/// Writes what failed, and the name of the file.
+fn tell_of<K: Sink>(console: &mut K, word: &[u8], name: &str) -> Result<(), SinkFault>
+    ensures { K.label console.new ≡ K.label console.old }
+{
+    write_all(console, word)?;
+    write_all(console, name.as_bytes())?;
+    write_all(console, b"\n")
+}
+
+/// The line for a base that was refused.
+fn base_line(fault: ImportFault) -> RowText {
+    let mut text = RowText::new();
+    let _ = text.try_extend_from_slice(b"base");
+    match fault {
+        ImportFault::Row(record, field) => {
+            push_word(&mut text, b"row");
+            push_number(&mut text, u64::from(record));
+            push_word(&mut text, b"field");
+            push_number(&mut text, u64::from(field.field));
+            push_word(&mut text, rule_word(field.rule));
+        }
+        ImportFault::Twice(record) => {
+            push_word(&mut text, b"twice");
+            push_number(&mut text, u64::from(record));
+        }
+        ImportFault::Full(room) => {
+            push_word(&mut text, b"full");
+            push_word(&mut text, room_word(room));
+        }
+        _ => push_word(&mut text, b"no-plan"),
+    }
+    let _ = text.try_push(b'\n');
+    text
+}
+
+/// The word for a rule that a field breaks.
+fn rule_word(rule: Rule) -> &'static [u8]
+    ensures { length result.now ≤ 20 }
+{
+    match rule {
+        Rule::Shape => b"shape",
+        Rule::Range => b"range",
+        Rule::Date => b"date",
+        Rule::Own => b"self",
+    }
+}
+
+/// The word for what a base has too much of.
+fn room_word(room: Room) -> &'static [u8]
+    ensures { length result.now ≤ 20 }
+{
+    match room {
+        Room::Bytes => b"bytes",
+        Room::Scenarios => b"scenarios",
+        Room::Parts => b"parts",
+        Room::Records => b"records",
+        Room::Journal => b"journal",
+    }
+}

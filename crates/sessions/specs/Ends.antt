@@ -1,0 +1,24 @@
+-- What the end of a session says of its source and its sink.
+use Rattle.std.specs.Prelude.{◌≡◌, ℕ, ◌≤◌, List, Result, Err}
+use Rattle.plan_schema.specs.Outside.{Rose}
+use Rattle.plan_schema.specs.declared.outside.SinkFault.TheVariants as sinks
+use Rattle.byte_lines.specs.declared.rounds.Served.{Served}
+use Rattle.byte_lines.specs.declared.rounds.Served.TheVariants as ends
+use Rattle.sessions.specs.declared.serve.Stop.{Stop}
+use Rattle.sessions.specs.declared.serve.Stop.TheVariants as stops
+
+-- a session ended: the counts of faults don't fall, a fault of the source is told only where the source's count rose, one of the sink
+-- only where the sink's rose, and both keep their labels. The meanings of the source and of the sink come first.
+pub record Ending {S K : Type 0} (reads : S → ℕ) (source_label : S → List ℕ) (writes : K → ℕ) (sink_label : K → List ℕ) (source source_then : S) (sink sink_then : K) (served : Served) : Type 0 where
+  pub reads_later : reads source ≤ reads source_then
+  pub reads_failed : served ≡ ends.ReadFault → Rose (reads source) (reads source_then)
+  pub source_same : source_label source_then ≡ source_label source
+  pub writes_later : writes sink ≤ writes sink_then
+  pub writes_failed : served ≡ ends.WriteFault → Rose (writes sink) (writes sink_then)
+  pub sink_same : sink_label sink_then ≡ sink_label sink
+
+-- some lines were served: the same of the sink alone
+pub record LineEnding {K : Type 0} (writes : K → ℕ) (label : K → List ℕ) (sink sink_then : K) (result : Result (Unit {0}) Stop) : Type 0 where
+  pub later : writes sink ≤ writes sink_then
+  pub failed : result ≡ Err (stops.Sink sinks.Failed) → Rose (writes sink) (writes sink_then)
+  pub same : label sink_then ≡ label sink

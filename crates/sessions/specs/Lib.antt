@@ -1,0 +1,2 @@
+pub mod Ends
+pub use Rattle.plan_schema.specs.Outside

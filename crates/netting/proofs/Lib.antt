@@ -1,3 +1,4 @@
 pub mod Going
 pub mod NetLaws
 pub mod Released
+pub mod Windows

@@ -2,3 +2,4 @@ pub mod Going
 pub mod NetLaws
 pub mod Released
 pub mod Windows
+pub mod Within

@@ -6,6 +6,9 @@ ghost use Rattle.planning_rules.specs.Amounts.{rounded_up, greatest};
 ghost use Rattle.plan_schema.specs.Sound.{is_sound_lot};
 ghost use Rattle.lot_sizing.specs.Shortages.{shortage, IsAmountFor, InReach};
 
+#[cfg(test)]
+mod tests;
+
 use plan_schema::{Lot, Qty};
 
 /// The amount that a lot rule orders on a day, by how much the day and the days after it fall short if nothing is planned:

@@ -1,3 +1,5 @@
 pub mod Going
 pub mod NetLaws
 pub mod Released
+pub mod Windows
+pub mod Within

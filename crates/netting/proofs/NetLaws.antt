@@ -1,25 +1,24 @@
 -- Netting from a balance: shortages, shifted inputs, and lists by day.
-use Rattle.std.proofs.Common.{◌≡◌, ℕ, suc, zero, ◌+◌, ◌-◌, ◌<◌, ◌≤◌, ◌⊎◌, inl, inr, List, [], ◌∷◌, ◌++◌, length, take, drop, get_or, map, max, refl, sym, ◌∙◌, ap, subst, arith, add-one, ltb, below_more, eq-zero-or-pos, le_refl, Bool, true, false, ◌||◌}
-use Rattle.std.specs.Prelude.{ℤ, pos, negsuc, All}
+use Rattle.std.proofs.Common.{◌≡◌, ℕ, suc, zero, ◌+◌, ◌-◌, ◌<◌, ◌≤◌, inl, inr, List, [], ◌∷◌, ◌++◌, length, take, drop, get_or, map, max, refl, sym, ◌∙◌, ap, subst, arith, add-one, ltb, below_more, eq-zero-or-pos, le_refl, Bool, true, false, ◌||◌}
+use Rattle.std.specs.Prelude.{ℤ, pos, All}
 use Rattle.std.specs.List.{sum, range_with_len}
 use Rattle.std.proofs.lemmas.List.{get_or-map, length-map, length-drop, get_or-drop}
 use Rattle.std.proofs.lemmas.List.FromFn.{fill_by_all}
 use Rattle.std.proofs.lemmas.List.Sums.{sum_by-append}
 use Rattle.std.proofs.Math.Seq.{take-add}
 use Rattle.plan_schema.specs.declared.key.Lot.{Lot}
-use Rattle.std.specs.List.{AllByRecursion, list_any}
 use Rattle.std.proofs.lemmas.List.Folds.{list_any_at, list_any_none}
 use Rattle.std.proofs.lemmas.Bool.{lt-ltb, le-ltb}
 use Rattle.std.proofs.lemmas.List.{take_all, take-append-le, get_or_append_left, length-append}
 use Rattle.std.proofs.Math.Seq.{get_or-append_seam}
 use Rattle.plan_schema.specs.declared.key.Lot.TheVariants as lot
 use Rattle.lot_sizing.proofs.LotLaws.{IsSoundLot}
-use Rattle.planning_rules.specs.Netting.{Netted, NettedTo, balance_on, balances, exceeds, limit, there, releases, is_too_large}
+use Rattle.planning_rules.specs.Netting.{Netted, balance_on, balances, exceeds, limit, there, releases, is_too_large}
 use Rattle.planning_rules.proofs.NettedLaws.{prefix_same, order_unique, netted_unique}
 use Rattle.netting.proofs.Going.{Going, going_on}
 use Rattle.planning_rules.specs.Amounts.{IsAmount}
 use Rattle.planning_rules.specs.Netting.{Input, IsOrder, short_on, later, days}
-use Rattle.lot_sizing.specs.Shortages.{shortage, IsAmountFor, InReach}
+use Rattle.lot_sizing.specs.Shortages.{shortage, IsAmountFor}
 use Rattle.netting.specs.Shortages.{shortages}
 
 to_suc : (s b k : ℕ) (gross sched : List ℕ) → (s + sum (take (k + 1) gross)) - (b + sum (take (k + 1) sched)) ≡ (s + sum (take (suc k) gross)) - ((b + sum (take (suc k) sched)) + 0)

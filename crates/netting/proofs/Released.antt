@@ -1,11 +1,11 @@
 -- Releases of the orders of the first days.
-use Rattle.std.proofs.Common.{◌≡◌, ℕ, suc, zero, ◌+◌, ◌-◌, ◌*◌, ◌<◌, ◌≤◌, ◌≢◌, ◌⊎◌, inl, inr, List, [], ◌∷◌, length, get_or, set, map, refl, sym, ◌∙◌, ap, subst, arith, Bool, true, false, cond, eqb, ◌==◌}
+use Rattle.std.proofs.Common.{◌≡◌, ℕ, ◌+◌, ◌*◌, ◌<◌, ◌≤◌, ◌≢◌, inl, inr, List, length, get_or, set, map, sym, ◌∙◌, ap, subst, arith, Bool, cond, ◌==◌}
 use Rattle.std.specs.List.{sum, range_with_len}
 use Rattle.std.proofs.lemmas.Bool.Decides.{eqb_tells}
 use Rattle.std.proofs.lemmas.List.{get_or-set_same, get_or-set_other}
 use Rattle.std.proofs.lemmas.List.FromFn.{fill_by_all, sum_by-map-range_with_len_more}
 use Rattle.planning_rules.specs.Days.{back}
-use Rattle.planning_rules.specs.Netting.{releases, release_on, late_sum}
+use Rattle.planning_rules.specs.Netting.{releases, release_on}
 
 -- what the order of day u releases on day t
 abbrev pub share : List Bool → ℕ → List ℕ → ℕ → ℕ → ℕ

@@ -1,5 +1,5 @@
 -- The input and the outcome of a part's step as the definitions see them.
-use Rattle.std.specs.Prelude.{ℕ, ◌≤◌, ◌≡◌, true, length, All}
+use Rattle.std.specs.Prelude.{◌≤◌, ◌≡◌, true, length, All}
 use Rattle.netting.specs.declared.step.Input.{Input}
 use Rattle.plan_schema.specs.declared.outcome.Outcome.{Outcome}
 use Rattle.plan_schema.specs.declared.outcome.NetFault.{NetFault}

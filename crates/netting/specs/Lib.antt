@@ -1,4 +1,5 @@
 pub mod Shortages
+pub mod Windows
 pub mod Inputs
 pub use Rattle.planning_rules.specs.Netting
 pub use Rattle.plan_schema.specs.Sound

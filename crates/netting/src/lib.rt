@@ -2,6 +2,8 @@
 #![tactic(auto)]
 
 mod step;
+#[cfg(test)]
+mod tests;
 
 pub use plan_schema::{NetFault, Outcome, Quantities};
 pub use step::{Input, net};

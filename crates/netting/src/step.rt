@@ -5,6 +5,7 @@ ghost use Rattle.plan_schema.specs.Sound.{is_sound_lot};
 ghost use Rattle.lot_sizing.specs.Shortages.{shortage, InReach};
 ghost use Rattle.netting.specs.Inputs.{IsWithin, given, WhereLarge, told};
 ghost use Rattle.netting.specs.Shortages.{shortages};
+ghost use Rattle.netting.specs.Windows.{looked};
 
 use lot_sizing::lot;
 use plan_calendar::Calendar;
@@ -59,7 +60,18 @@ fn fill_short(short: &mut [i64], balance: u64, safety: u64, gross: &[u64], sched
     }
 }
 
-/// The order of a day, from the balance before it, the days from it on, and a place for as many shortages.
+/// How many days a lot rule looks at, of those that are left from a day on.
+fn looked_at(rule: &Lot, left: usize) -> usize
+    ensures { result ≡ looked rule.now left }
+{
+    match rule {
+        Lot::Period(days) => left.min(*days as usize),
+        Lot::Exact | Lot::Fixed(_) | Lot::Least { .. } => 1,
+    }
+}
+
+/// The order of a day, from the balance before it, the days from it on, and a place for as many shortages. Its work is that of the days
+/// that the lot rule looks at.
 fn order_of(
     rule: &Lot,
     balance: u64,
@@ -83,7 +95,9 @@ fn order_of(
     if safety + gross[0] <= balance + sched[0] {
         return 0;
     }
-    fill_short(short, balance, safety, gross, sched);
+    let days = looked_at(rule, gross.len());
+    let short = &mut short[..days];
+    fill_short(short, balance, safety, &gross[..days], &sched[..days]);
     lot(rule, short)
 }
 

@@ -2,5 +2,7 @@
 #![tactic(auto)]
 
 mod calendar;
+#[cfg(test)]
+mod tests;
 
 pub use calendar::{Calendar, Holidays};

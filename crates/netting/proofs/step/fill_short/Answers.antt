@@ -1,4 +1,4 @@
-use Rattle.std.proofs.Common.{rules, arith, length, ◌≡◌, ◌<◌}
+use Rattle.std.proofs.Common.{arith, length, ◌≡◌}
 use Rattle.netting.proofs.NetLaws.{shortages_all}
 use Rattle.netting.proofs.step.fill_short.Goals as goal
 

@@ -1,4 +1,4 @@
-use Rattle.std.proofs.Common.{rules, ◌≡◌, ℕ, List, sym, ◌∙◌, ap, true, false}
+use Rattle.std.proofs.Common.{◌≡◌, sym, ◌∙◌, ap}
 use Rattle.planning_rules.specs.Netting.{exceeds, releases}
 use Rattle.netting.specs.Inputs.{given}
 use Rattle.netting.proofs.NetLaws.{large_release, not_large}

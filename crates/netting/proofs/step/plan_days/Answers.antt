@@ -1,11 +1,9 @@
-use Rattle.std.proofs.Common.{rules, ◌≡◌, ℕ, ◌+◌, ◌-◌, ◌*◌, ◌<◌, ◌≤◌, [], List, length, ◌∷◌, ◌++◌, slice_index, slice_index_or, drop, arith, subst, sym, refl, ◌∙◌}
-use Rattle.std.specs.Prelude.{All}
+use Rattle.std.proofs.Common.{◌≡◌, ◌+◌, ◌-◌, ◌*◌, ◌<◌, ◌≤◌, [], length, ◌∷◌, ◌++◌, slice_index_or, arith, subst}
 use Rattle.std.proofs.lemmas.List.Elements.{All-push}
 use Rattle.std.proofs.lemmas.Grind.{common_steps}
-use Rattle.planning_rules.specs.Netting.{IsOrder, limit}
+use Rattle.planning_rules.specs.Netting.{limit}
 use Rattle.netting.specs.Inputs.{given}
-use Rattle.netting.proofs.Going.{Going}
-use Rattle.netting.proofs.NetLaws.{Balanced, begun, one_more_day, balanced_push, balanced_all, large_here, order_told, covers_told}
+use Rattle.netting.proofs.NetLaws.{Balanced, one_more_day, balanced_push, balanced_all, large_here, order_told, covers_told}
 use Rattle.netting.proofs.step.plan_days.Goals as goal
 
 pub returns-then-order-gt-LIMIT-clause-large : goal.returns-then-order-gt-LIMIT-clause-large

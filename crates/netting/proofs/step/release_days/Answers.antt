@@ -1,7 +1,7 @@
-use Rattle.std.proofs.Common.{rules, ◌≡◌, ℕ, ◌+◌, ◌-◌, ◌*◌, ◌<◌, ◌≤◌, List, length, slice_index_or, slice_set, arith, subst, sym, refl, ◌∙◌, ap, cond}
+use Rattle.std.proofs.Common.{◌≡◌, ◌+◌, ◌*◌, ◌<◌, ◌≤◌, length, slice_index_or, slice_set, arith, subst, sym, ◌∙◌, ap, cond}
 use Rattle.std.proofs.lemmas.Grind.{common_steps}
 use Rattle.planning_rules.specs.Days.{back}
-use Rattle.netting.proofs.Released.{share, late_share, late_to, released_to, late_more, release_step, small_step, released_all}
+use Rattle.netting.proofs.Released.{late_to, released_to, late_more, release_step, small_step, released_all}
 use Rattle.netting.proofs.step.release_days.Goals as goal
 use Rattle.netting.proofs.step.release_days.Goals.{then-is_late, else-is_late}
 

@@ -1,4 +1,4 @@
-use Rattle.std.proofs.Common.{◌≡◌, ◌+◌, ◌*◌, ◌≤◌, ◌<◌, ℕ, length, get_or}
+use Rattle.std.proofs.Common.{◌≡◌, ◌*◌, ◌≤◌, ◌<◌, ℕ, length, get_or}
 use Rattle.netting.proofs.Released.{released_to, late_to}
 use Rattle.netting.proofs.step.release_days.Given as goal
 

@@ -98,7 +98,7 @@ sound_with_record (e ∷ es) k r all one =
     by_order (sound_with_record es k r parts.1 one) (key_cmp k e.0) refl parts
   where
     by_order : are_sound_rows (with_record es k r) ≡ true → (o : Ordering) → key_cmp k e.0 ≡ o → (is_sound_row e.0 e.1 ≡ true) × (are_sound_rows es ≡ true)
-      → are_sound_rows (match_ordering o ((k, r) ∷ e ∷ es) ((e.0, r) ∷ es) (e ∷ with_record es k r)) ≡ true
+        → are_sound_rows (match_ordering o ((k, r) ∷ e ∷ es) ((e.0, r) ∷ es) (e ∷ with_record es k r)) ≡ true
     by_order later Less is p = and_from (is_sound_row k r) (are_sound_rows (e ∷ es)) one all
     by_order later Equal is p =
         let here : is_sound_row e.0 r ≡ true = ap (λ q. is_sound_row q r) (sym (exact_keys k e.0 is)) ∙ one in

@@ -25,3 +25,6 @@ pub use outcome::{Known, NetFault, Outcome};
 pub use refusal::{Refusal, Room};
 pub use series::{Quantities, Rows, Series};
 pub use steps::Steps;
+
+#[cfg(test)]
+mod tests;

@@ -1,4 +1,4 @@
-use Rattle.std.proofs.Common.{rules, ◌≡◌, ℕ, ◌+◌, pos, map, max, take, ◌∙◌, sym, ap}
+use Rattle.std.proofs.Common.{◌≡◌, map, take}
 use Rattle.planning_rules.specs.Amounts.{greatest}
 use Rattle.lot_sizing.specs.Shortages.{shortage}
 use Rattle.lot_sizing.proofs.LotLaws.{greatest_more}

@@ -1,8 +1,8 @@
-use Rattle.std.proofs.Common.{rules, ◌≡◌, ℕ, ◌≤◌, ◌<◌, pos, length, map, max, slice_index_or, take, drop, List, [], ◌∷◌, ◌∙◌, sym, ap, arith}
+use Rattle.std.proofs.Common.{map, max, ◌∙◌, sym, ap, arith}
 use Rattle.std.proofs.lemmas.List.{take_all}
-use Rattle.planning_rules.specs.Amounts.{rounded_up, greatest, amount}
+use Rattle.planning_rules.specs.Amounts.{rounded_up, greatest}
 use Rattle.lot_sizing.specs.Shortages.{shortage}
-use Rattle.lot_sizing.proofs.LotLaws.{sound_lot, lot_meets, all_shortages, greatest_first}
+use Rattle.lot_sizing.proofs.LotLaws.{sound_lot, lot_meets, greatest_first}
 use Rattle.lot_sizing.proofs.lot.Goals as goal
 
 pub returns-in-Fixed : goal.returns-in-Fixed

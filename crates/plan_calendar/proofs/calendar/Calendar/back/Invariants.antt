@@ -1,4 +1,4 @@
-use Rattle.std.proofs.Common.{◌≡◌, ◌-◌, ◌≤◌, ℕ}
+use Rattle.std.proofs.Common.{◌≡◌, ◌-◌, ◌≤◌}
 use Rattle.std.specs.Prelude.{slice_get}
 use Rattle.planning_rules.specs.Days.{working_before}
 use Rattle.plan_calendar.proofs.calendar.Calendar.back.Given as goal

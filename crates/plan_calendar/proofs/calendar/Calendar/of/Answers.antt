@@ -1,4 +1,4 @@
-use Rattle.std.proofs.Common.{◌≡◌, ◌≤◌, ◌∙◌, ap, length, take, arith}
+use Rattle.std.proofs.Common.{◌≤◌, ◌∙◌, ap, length, take, arith}
 use Rattle.std.proofs.lemmas.List.{take_all}
 use Rattle.plan_calendar.specs.Weeks.{worked_days}
 use Rattle.plan_calendar.proofs.Marks.{all_days}

@@ -44,8 +44,8 @@ unfolding with_records
 laid_short seen more fields c fault h e =
     let number : 1 + length seen ≡ length seen + 1 = omega arith in
     let one : with_records 1 [] (seen ++ fields ∷ []) ≡ Err fault =
-      with_records-append 1 [] seen (fields ∷ []) ∙ ap (λ (r : Answer). r >>= (λ d. with_records (1 + length seen) d (fields ∷ []))) h
-      ∙ ap (λ n. with_numbered n c fields >>= (λ d. with_records (n + 1) d [])) number ∙ ap (λ (r : Answer). r >>= (λ d. with_records (length seen + 1 + 1) d [])) e in
+    with_records-append 1 [] seen (fields ∷ []) ∙ ap (λ (r : Answer). r >>= (λ d. with_records (1 + length seen) d (fields ∷ []))) h
+    ∙ ap (λ n. with_numbered n c fields >>= (λ d. with_records (n + 1) d [])) number ∙ ap (λ (r : Answer). r >>= (λ d. with_records (length seen + 1 + 1) d [])) e in
     with_records-append 1 [] (seen ++ fields ∷ []) more ∙ ap (λ (r : Answer). r >>= (λ d. with_records (1 + length (seen ++ fields ∷ [])) d more)) one
 
 pub tells_short : (seen more : List (List (List ℕ))) (fields : List (List ℕ)) (c : Contents) (fault : ImportFault) → with_records 1 [] seen ≡ Ok c → TellsFault (with_numbered (length seen + 1) c fields) fault
@@ -132,7 +132,6 @@ err_told told want (Err NoPlan) e h = λ a b. e ∙ h
 err_told told want (Err Memory) e h = λ a b. absurd (b refl)
 
 module _ {S : Type 0} (left : S → Option (List ℕ)) (faults : S → ℕ) (label : S → List ℕ) where
-
   pub imported_text : (old new : S) (bytes : List ℕ) (r : Answer) → ReadAll left faults label 67108864 old new (Ok bytes) → Tells (base_of_records (base_records bytes)) r
       → IfOk r (λ c. is_base c ≡ true) → Imported left faults label old new r
   imported_text old new bytes r read told base =

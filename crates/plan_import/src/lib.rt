@@ -124,12 +124,7 @@ fn add_fields(contents: &mut Contents, number: u32, fields: &[&[u8]]) -> Result<
 
 /// Adds a row whose key mustn't be there.
 #[tactic(auto, unfolding(crate::specs::BaseFile::with_new), using(plan_schema::proofs::Orders::sound_with_record))]
-fn add_new(
-    contents: &mut Contents,
-    number: u32,
-    key: Key,
-    value: Record,
-) -> Result<(), ImportFault>
+fn add_new(contents: &mut Contents, number: u32, key: Key, value: Record) -> Result<(), ImportFault>
     requires { is_sound_row key value ≡ true }
     ensures ok { OnOk result (with_new number contents.old (key, value) ≡ Ok contents.new) }
     ensures err { IfErr result (TellsFault (with_new number contents.old (key, value))) }

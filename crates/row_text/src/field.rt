@@ -59,12 +59,7 @@ pub fn name_at(fields: &[&[u8]], field: u32) -> Result<Name, FieldFault>
 
 /// The number from `low` to `high` that a field is.
 #[tactic(auto, unfolding(crate::specs::Row::number_at))]
-pub fn number_at(
-    fields: &[&[u8]],
-    field: u32,
-    low: u64,
-    high: u64,
-) -> Result<u64, FieldFault>
+pub fn number_at(fields: &[&[u8]], field: u32, low: u64, high: u64) -> Result<u64, FieldFault>
     requires { high < 2 ^ 60 }
     ensures value { result ≡ spec.number_at (texts fields.now) field low high }
     ensures range { IfOk result (λ n. (low ≤ n) × (n ≤ high)) }

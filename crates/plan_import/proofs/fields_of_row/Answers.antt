@@ -12,7 +12,7 @@ loop-field-preserved c =
     let good : is_ok c.push.result ≡ true = search rules in
     let items = rw good at c.push.ensures.items in
     let more : take (c.loop-field.field-iterator.at + 1) (fields_of c.args.row.now) ≡ take c.loop-field.field-iterator.at (fields_of c.args.row.now) ++ (c.in-Some.field.now ∷ [])
-      = field_at-take (fields_of c.args.row.now) c.loop-field.field-iterator.at c.in-Some.field.now (rw inv.row at s.1) in
+    = field_at-take (fields_of c.args.row.now) c.loop-field.field-iterator.at c.in-Some.field.now (rw inv.row at s.1) in
     record {
       row = ap (λ (b : Bor Row). b.now) s.0 ∙ inv.row;
       read = rw (items, map-append (λ (b : Bor (List ℕ)). b.now) c.loop-field.fields.items (c.in-Some.field ∷ []), inv.read, s.2, more) refl;

@@ -46,10 +46,15 @@ loop-row-preserved c =
       ready = inl s.1;
       turns = s.2;
       config = s.0.2 ∙ inv.config;
-      left = (m.0, inv.left.1 ++ (fields_of c.in-Ok.row ∷ []), m.1, m.2,
+      left = (
+        m.0,
+        inv.left.1 ++ (fields_of c.in-Ok.row ∷ []),
+        m.1,
+        m.2,
         laid_more inv.left.1 (fields_of c.in-Ok.row) c.loop-row.contents c.add_row.new.contents inv.left.4
-          (subst (λ n. with_numbered (n + 1) c.loop-row.contents (fields_of c.in-Ok.row) ≡ Ok c.add_row.new.contents) inv.left.5 c.in_default-add_row.ensures.ok),
-        omega (arith, length-append inv.left.1 (fields_of c.in-Ok.row ∷ []), inv.left.5));
+            (subst (λ n. with_numbered (n + 1) c.loop-row.contents (fields_of c.in-Ok.row) ≡ Ok c.add_row.new.contents) inv.left.5 c.in_default-add_row.ensures.ok),
+        omega (arith, length-append inv.left.1 (fields_of c.in-Ok.row ∷ []), inv.left.5),
+      );
       sound = c.in_default-add_row.ensures.sound inv.sound;
     }
 
@@ -60,13 +65,13 @@ returns-in-Err-clause-told c =
     let m = rows-more (λ (s : Bor (List ℕ)). Some s.now) c.loop-row.row-iterator.rdr c.next.new.self.rdr (fields_of c.in-Ok.row) default_config st.StartRecord (strip_bom c.args.text.now) inv.left.0 inv.left.1 inv.config inv.left.2 inv.left.3 s.0 in
     let part = reached-part (strip_bom c.args.text.now) (inv.left.1 ++ (fields_of c.in-Ok.row ∷ [])) c.next.new.self.rdr.state m.0 m.2 in
     subst (λ all. TellsFault (with_records 1 [] all) c.in-Err.fault) (sym part.1)
-      (tells_short inv.left.1 part.0 (fields_of c.in-Ok.row) c.loop-row.contents c.in-Err.fault inv.left.4
-        (subst (λ n. TellsFault (with_numbered (n + 1) c.loop-row.contents (fields_of c.in-Ok.row)) c.in-Err.fault) inv.left.5 c.in-Err.ensures.err))
+    (tells_short inv.left.1 part.0 (fields_of c.in-Ok.row) c.loop-row.contents c.in-Err.fault inv.left.4
+    (subst (λ n. TellsFault (with_numbered (n + 1) c.loop-row.contents (fields_of c.in-Ok.row)) c.in-Err.fault) inv.left.5 c.in-Err.ensures.err))
 
 pub returns-clause-told : goal.returns-clause-told
 returns-clause-told c =
     let inv = c.loop-row.invariant in
     let s = rw c.in-None.is at ((c.next.ensures.steps inv.turns inv.plain).0 inv.ready) in
     let all = reached-all (strip_bom c.args.text.now) inv.left.1 c.loop-row.row-iterator.rdr.state inv.left.0 inv.left.3
-      (rows-end (λ (s : Bor (List ℕ)). Some s.now) c.loop-row.row-iterator.rdr c.next.new.self.rdr [] default_config inv.left.0 inv.config inv.left.2 s) in
+    (rows-end (λ (s : Bor (List ℕ)). Some s.now) c.loop-row.row-iterator.rdr c.next.new.self.rdr [] default_config inv.left.0 inv.config inv.left.2 s) in
     ap (with_records 1 []) all ∙ inv.left.4

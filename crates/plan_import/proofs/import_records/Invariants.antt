@@ -13,7 +13,7 @@ invariant-loop-row l = record {
   turns : 0 < l.row-iterator.left;
   config : l.row-iterator.rdr.config ≡ default_config;
   left : (y : List ℕ) × (seen : List (List (List ℕ))) × (source_of (λ s. Some s.now) l.row-iterator.rdr ≡ Some y)
-    × Reached default_config st.StartRecord (strip_bom l.fn.text) seen l.row-iterator.rdr.state y
-    × (with_records 1 [] seen ≡ Ok l.contents) × (l.count ≡ length seen);
-  sound : are_sound_rows l.contents ≡ true
+      × Reached default_config st.StartRecord (strip_bom l.fn.text) seen l.row-iterator.rdr.state y
+      × (with_records 1 [] seen ≡ Ok l.contents) × (l.count ≡ length seen);
+  sound : are_sound_rows l.contents ≡ true;
 }

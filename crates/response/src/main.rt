@@ -3,9 +3,8 @@
 
 use byte_lines::FileShelf;
 use response_program::response;
-use std::env;
-use std::io;
 use std::process::ExitCode;
+use std::{env, io};
 
 fn main(rt: HostRuntime) -> io::Result<ExitCode> {
     let alloc = rt.alloc();

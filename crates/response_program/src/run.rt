@@ -29,12 +29,7 @@ pub fn response<H: Shelf>(alloc: Global, words: &[String], shelf: &mut H) -> u8 
 }
 
 /// The same with a counter of its own.
-fn counted<L: Ledger, H: Shelf>(
-    alloc: Global,
-    words: &[String],
-    shelf: &mut H,
-    blank: Blank,
-) -> u8
+fn counted<L: Ledger, H: Shelf>(alloc: Global, words: &[String], shelf: &mut H, blank: Blank) -> u8
     requires name { blank.name ≡ L.name }
     requires parts { blank.parts ≡ L.parts }
     requires one { blank.parts ≡ 1 }

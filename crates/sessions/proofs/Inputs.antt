@@ -1,12 +1,12 @@
 -- What a sound row of a part says of its numbers.
-use Rattle.std.proofs.Common.{◌≡◌, ◌≤◌, ℕ, List, true, ◌&&◌, nat_le, Option, arith}
+use Rattle.std.proofs.Common.{◌≡◌, ◌≤◌, ℕ, true, ◌&&◌, nat_le, Option, arith}
 use Rattle.std.proofs.lemmas.Bool.{and_parts}
 use Rattle.std.proofs.lemmas.Bool.Decides.{nat_tests}
 use Rattle.plan_schema.specs.declared.name.Name.{Name}
 use Rattle.plan_schema.specs.declared.key.Lot.{Lot}
 use Rattle.plan_schema.specs.declared.key.Key.TheVariants as keys
 use Rattle.plan_schema.specs.declared.key.Record.TheVariants as records
-use Rattle.plan_schema.specs.Sound.{is_sound_row, is_sound_key, is_sound_lot, is_quantity, record_has_names, is_within}
+use Rattle.plan_schema.specs.Sound.{is_sound_row, is_sound_key, is_sound_lot, is_quantity, record_has_names}
 
 pub record PartLimits (lead : ℕ) (lot : Lot) (safety : ℕ) : Type 0 where
   pub lead_most : lead ≤ 365

@@ -54,11 +54,7 @@ fn plan_reply<L: Ledger>(
 }
 
 /// A line for each day on which something is asked for, received, planned or released.
-fn plan_lines(
-    alloc: Global,
-    contents: &Contents,
-    outcome: &Outcome,
-) -> Result<Lines, AllocError>
+fn plan_lines(alloc: Global, contents: &Contents, outcome: &Outcome) -> Result<Lines, AllocError>
     requires { is_base contents.now ≡ true }
 {
     let mut lines = Lines::new(alloc);

@@ -8,7 +8,9 @@ use crate::orders::{Kind, totals};
 use crate::records::{horizon_in, record_in};
 use netting::{Input, net};
 use plan_calendar::{Calendar, Holidays};
-use plan_schema::{Contents, Day, Key, Name, NetFault, Outcome, Qty, Record, Refusal, Series, Steps};
+use plan_schema::{
+    Contents, Day, Key, Name, NetFault, Outcome, Qty, Record, Refusal, Series, Steps,
+};
 use std::alloc::{AllocError, Global};
 use std::sync::ledger::Ledger;
 
@@ -58,7 +60,13 @@ fn plan_over<L: Ledger>(
     requires some_days { 1 ≤ days }
     requires most_days { days ≤ 400 }
 {
-    let Record::Part { lead, lot, safety, calendar } = row else {
+    let Record::Part {
+        lead,
+        lot,
+        safety,
+        calendar,
+    } = row
+    else {
         return Err(PlanFault::No(Refusal::NoPart(*part)));
     };
     let Some(calendar) = calendar_in(alloc, contents, start, days, calendar.as_ref())? else {
@@ -110,12 +118,7 @@ fn calendar_in(
         return Ok(None);
     };
     let holidays = holidays_in(alloc, contents, name)?;
-    Ok(Some(Calendar::of(
-        start,
-        days,
-        week,
-        &holidays,
-    )))
+    Ok(Some(Calendar::of(start, days, week, &holidays)))
 }
 
 /// The holidays of a calendar.

@@ -83,7 +83,14 @@ pub fn serve_first<L: Ledger, S: Source, K: Sink>(
             return Served::Limit;
         }
         left -= count as u64;
-        if let Err(stop) = serve_piece(alloc, contents, steps, &mut progress, &buffer[..count], sink) {
+        if let Err(stop) = serve_piece(
+            alloc,
+            contents,
+            steps,
+            &mut progress,
+            &buffer[..count],
+            sink,
+        ) {
             return stop.served();
         }
     }

@@ -6,3 +6,6 @@ mod run;
 mod words;
 
 pub use run::response;
+
+#[cfg(test)]
+mod tests;

@@ -1,0 +1,155 @@
+//! Tests of whole runs over a shelf in memory.
+use crate::response;
+use byte_lines::{Calls, MemoryShelf, NamedCalls};
+use plan_schema::Series;
+use std::alloc::{AllocError, Global};
+use std::test::Fail;
+
+/// One part with a lead time of two days, 30 on hand.
+const PART: &str = "PLAN,2025-03-03,5\nPART,A,2,L4L,0,-\nSTOCK,A,30\n";
+
+/// The console's line of a run that ended well.
+const ENDED: &str = "entries 0 netted 0 reused 0 dropped 0\n";
+
+fn texts(alloc: Global, words: &[&str]) -> Result<Vec<String>, AllocError> {
+    let mut texts = Vec::new(alloc);
+    for word in words {
+        texts.push(String::from_str(alloc, word)?)?;
+    }
+    Ok(texts)
+}
+
+/// A shelf with a base and an input, on which the opening calls with these numbers fail.
+fn shelf_with(
+    alloc: Global,
+    opens: &[u64],
+    base: &[&str],
+    input: &str,
+) -> Result<MemoryShelf, AllocError> {
+    let mut failing: Calls = Series::new(alloc);
+    for number in opens {
+        failing.push(*number)?;
+    }
+    let mut shelf = MemoryShelf::new(alloc, failing, NamedCalls::new(alloc));
+    let mut rows = String::new(alloc);
+    for part in base {
+        rows.push_str(part)?;
+    }
+    shelf.put("base", rows.as_bytes())?;
+    shelf.put("in", input.as_bytes())?;
+    Ok(shelf)
+}
+
+/// A run with a base, an input, and what it must come to.
+#[derive(Clone, Copy)]
+struct Case {
+    base: &'static [&'static str],
+    input: &'static str,
+    status: u8,
+    console: &'static str,
+    journal: &'static str,
+    output: &'static str,
+}
+
+#[test]
+fn runs_come_to_their_replies(rt: HostRuntime) -> Result<(), Fail> {
+    let alloc = rt.alloc();
+    let cases = [
+        Case {
+            base: &[PART, "DEMAND,A,D1,2025-03-05,50\n"],
+            input: "PLAN Baseline A\n",
+            status: 0,
+            console: ENDED,
+            journal: "plan-journal 2\n",
+            output: "OK @0 2\n2025-03-03 0 0 0 30 20 0\n2025-03-05 50 0 20 0 0 0\n",
+        },
+        Case {
+            base: &[PART, "DEMAND,A,D1,2025-03-05,30\n"],
+            input: "PLAN Baseline A",
+            status: 0,
+            console: ENDED,
+            journal: "plan-journal 2\n",
+            output: "OK @0 1\n2025-03-05 30 0 0 0 0 0\n",
+        },
+        Case {
+            base: &[PART, "DEMAND,A,D1,2025-03-05,31\n"],
+            input: "\n PLAN\tBaseline  A \r\n",
+            status: 0,
+            console: ENDED,
+            journal: "plan-journal 2\n",
+            output: "OK @0 2\n2025-03-03 0 0 0 30 1 0\n2025-03-05 31 0 1 0 0 0\n",
+        },
+        Case {
+            base: &[PART, "DEMAND,A,D1,2025-02-01,50\n"],
+            input: "PLAN Baseline A\n",
+            status: 0,
+            console: ENDED,
+            journal: "plan-journal 2\n",
+            output: "OK @0 1\n2025-03-03 50 0 20 0 20 20\n",
+        },
+        Case {
+            base: &[PART],
+            input: "PLAN Baseline Q\nPLAN X A\nPLAN Baseline\nFOO\n",
+            status: 0,
+            console: ENDED,
+            journal: "plan-journal 2\n",
+            output: "NO @0 no-part Q\nNO @0 no-scenario X\nBAD word\nBAD word\n",
+        },
+        Case {
+            base: &[PART, "STOCK,A,31\n"],
+            input: "PLAN Baseline A\n",
+            status: 3,
+            console: "base twice 4\n",
+            journal: "",
+            output: "",
+        },
+    ];
+    for case in &cases {
+        let mut shelf = shelf_with(alloc, &[], case.base, case.input)?;
+        let words = texts(alloc, &["run", "base", "journal", "in", "out"])?;
+        assert_eq!(rt; response(alloc, words.as_slice(), &mut shelf), case.status);
+        assert_eq!(rt; shelf.held("-").unwrap_or(b""), case.console.as_bytes());
+        assert_eq!(rt; shelf.held("journal").unwrap_or(b""), case.journal.as_bytes());
+        assert_eq!(rt; shelf.held("out").unwrap_or(b""), case.output.as_bytes());
+    }
+    Ok(())
+}
+
+#[test]
+fn other_words_are_refused(rt: HostRuntime) -> Result<(), Fail> {
+    let alloc = rt.alloc();
+    let cases: [&[&str]; 6] = [
+        &[],
+        &["run", "base", "journal", "in"],
+        &["audit", "base", "journal", "in", "out"],
+        &["run", "base", "journal", "in", "-"],
+        &["run", "base", "journal", "in", "journal"],
+        &["run", "base", "journal", "base", "out"],
+    ];
+    for words in &cases {
+        let mut shelf = shelf_with(alloc, &[], &[PART], "PLAN Baseline A\n")?;
+        let words = texts(alloc, words)?;
+        assert_eq!(rt; response(alloc, words.as_slice(), &mut shelf), 2);
+        assert_eq!(rt; shelf.held("-").unwrap_or(b""), "words\n".as_bytes());
+        assert_eq!(rt; shelf.held("out").unwrap_or(b""), "".as_bytes());
+    }
+    Ok(())
+}
+
+#[test]
+fn files_that_fail_are_named(rt: HostRuntime) -> Result<(), Fail> {
+    let alloc = rt.alloc();
+    let cases = [
+        (2, "open base\n"),
+        (3, "open journal\n"),
+        (4, "open in\n"),
+        (5, "open out\n"),
+    ];
+    for (call, console) in cases {
+        let mut shelf = shelf_with(alloc, &[call], &[PART], "PLAN Baseline A\n")?;
+        let words = texts(alloc, &["run", "base", "journal", "in", "out"])?;
+        assert_eq!(rt; response(alloc, words.as_slice(), &mut shelf), 4);
+        assert_eq!(rt; shelf.held("-").unwrap_or(b""), console.as_bytes());
+    }
+    Ok(())
+}

@@ -1,4 +1,6 @@
 //! The words of the command line.
+ghost use Rattle.std.specs.Prelude.{◌≡◌, is_some, map, string_bytes};
+ghost use Rattle.response_program.specs.Words as spec;
 
 /// The file names of a run.
 #[derive(Clone, Copy)]
@@ -11,42 +13,64 @@ pub struct RunWords<'a> {
 
 /// The names that `run BASE JOURNAL IN OUT` gives. The journal and the output differ from each other and from the base and the
 /// input, and the base differs from the input.
-pub fn read_words(words: &[String]) -> Option<RunWords<'_>> {
-    if words.len() != 5 || words[0].as_str() != "run" {
+#[tactic(auto, unfolding(crate::specs::Words::is_run))]
+pub fn read_words(words: &[String]) -> Option<RunWords<'_>>
+    ensures { is_some result ≡ spec.is_run (map string_bytes words.now) }
+{
+    if words.len() != 5 {
         return None;
     }
-    let names = RunWords {
-        base: words[1].as_str(),
-        journal: words[2].as_str(),
-        input: words[3].as_str(),
-        output: words[4].as_str(),
-    };
-    if are_files(&names) && differ(&names) {
-        Some(names)
+    names_of(
+        words[0].as_str(),
+        words[1].as_str(),
+        words[2].as_str(),
+        words[3].as_str(),
+        words[4].as_str(),
+    )
+}
+
+/// The names, where the command is a run's and they are names of files that differ where they must.
+#[tactic(auto, unfolding(crate::specs::Words::is_run_of))]
+fn names_of<'a>(
+    command: &str,
+    base: &'a str,
+    journal: &'a str,
+    input: &'a str,
+    output: &'a str,
+) -> Option<RunWords<'a>>
+    ensures { is_some result ≡ spec.is_run_of command.now base.now journal.now input.now output.now }
+{
+    if command == "run"
+        && (is_file(base) && is_file(journal) && is_file(input) && is_file(output))
+        && names_differ(base, journal, input, output)
+    {
+        Some(RunWords {
+            base,
+            journal,
+            input,
+            output,
+        })
     } else {
         None
     }
 }
 
-/// Whether all names can be names of files.
-fn are_files(names: &RunWords<'_>) -> bool {
-    is_file(names.base) && is_file(names.journal) && is_file(names.input) && is_file(names.output)
-}
-
-/// Whether a word can be the name of a file: it isn't empty, isn't `/`, and doesn't begin with `-`.
-fn is_file(word: &str) -> bool {
-    match word.as_bytes().first() {
-        Some(byte) => *byte != b'-' && word != "/",
-        None => false,
-    }
+/// Whether a word can be the name of a file.
+fn is_file(word: &str) -> bool
+    ensures { result ≡ spec.is_file word.now }
+{
+    !word.is_empty() && word.as_bytes()[0] != b'-' && word != "/"
 }
 
 /// Whether the names that mustn't be the same differ.
-fn differ(names: &RunWords<'_>) -> bool {
-    names.base != names.journal
-        && names.base != names.input
-        && names.base != names.output
-        && names.journal != names.input
-        && names.journal != names.output
-        && names.input != names.output
+#[tactic(auto, unfolding(crate::specs::Words::names_differ))]
+fn names_differ(base: &str, journal: &str, input: &str, output: &str) -> bool
+    ensures { result ≡ spec.names_differ base.now journal.now input.now output.now }
+{
+    base != journal
+        && base != input
+        && base != output
+        && journal != input
+        && journal != output
+        && input != output
 }

@@ -1,5 +1,5 @@
 //! How a run ends.
-ghost use Rattle.std.specs.Prelude.{◌≡◌, ◌≤◌, length};
+ghost use Rattle.std.specs.Prelude.{◌≡◌, ◌≢◌, ◌≤◌, length};
 ghost use Rattle.arrayvec.specs.ArrayVec.{array_vec_len};
 
 use byte_lines::{Served, ShelfFault, Sink, SinkFault, write_all};
@@ -61,7 +61,9 @@ impl<'a> Ending<'a> {
     }
 
     /// The status of the program.
-    pub fn status(&self) -> u8 {
+    pub fn status(&self) -> u8
+        ensures { result ≢ 2 }
+    {
         match self {
             Ending::Done => 0,
             Ending::Memory => 1,

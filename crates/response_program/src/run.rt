@@ -1,5 +1,6 @@
 //! A run: one session over a base.
-ghost use Rattle.std.specs.Prelude.{◌≡◌, true};
+ghost use Rattle.std.specs.Prelude.{◌≡◌, ◌≢◌, ◌↔◌, true, false, map, string_bytes};
+ghost use Rattle.response_program.specs.Words.{is_run};
 ghost use Rattle.plan_schema.specs.Base.{is_base};
 
 use crate::ending::Ending;
@@ -24,15 +25,39 @@ const JOURNAL_HEAD: &[u8] = b"plan-journal 2\n";
 /// Does what the words ask for with the files of a shelf, tells the console how it ended, and answers the status: 0 where all ended,
 /// 1 for want of memory, 2 where the words aren't the program's, 3 where the base is refused, 4, 5 and 6 where a file couldn't be
 /// opened, read and written, and 7 where the input passed its limit.
-pub fn response<H: Shelf>(alloc: Global, words: &[String], shelf: &mut H) -> u8 {
-    counted::<Brand, H>(alloc, words, shelf, Blank::new(1))
+pub fn response<H: Shelf>(alloc: Global, words: &[String], shelf: &mut H) -> u8
+    ensures words { (result ≡ 2) ↔ (is_run (map string_bytes words.now) ≡ false) }
+{
+    match read_words(words) {
+        Some(names) => counted::<Brand, H>(alloc, &names, shelf, Blank::new(1)),
+        None => {
+            refuse(shelf);
+            WORDS
+        }
+    }
 }
 
-/// The same with a counter of its own.
-fn counted<L: Ledger, H: Shelf>(alloc: Global, words: &[String], shelf: &mut H, blank: Blank) -> u8
+/// Tells the console that the words aren't the program's.
+fn refuse<H: Shelf>(shelf: &mut H) {
+    let Ok(console) = shelf.make_out(CONSOLE) else {
+        return;
+    };
+    let mut console = console;
+    let _ = write_all(&mut console, b"words\n");
+    shelf.give_out(CONSOLE, console);
+}
+
+/// A run, with a counter of its own.
+fn counted<L: Ledger, H: Shelf>(
+    alloc: Global,
+    names: &RunWords<'_>,
+    shelf: &mut H,
+    blank: Blank,
+) -> u8
     requires name { blank.name ≡ L.name }
     requires parts { blank.parts ≡ L.parts }
     requires one { blank.parts ≡ 1 }
+    ensures { result ≢ 2 }
 {
     let (book, share) = blank.open::<L>();
     let mut steps = Steps::new(book, share);
@@ -40,19 +65,10 @@ fn counted<L: Ledger, H: Shelf>(alloc: Global, words: &[String], shelf: &mut H, 
         Ok(console) => console,
         Err(fault) => return Ending::of_open(CONSOLE, fault).status(),
     };
-    let status = match read_words(words) {
-        Some(names) => {
-            let ending = run(alloc, &names, shelf, &mut steps);
-            let told = ending.tell(&mut console);
-            ending.and_written(CONSOLE, told).status()
-        }
-        None => {
-            let _ = write_all(&mut console, b"words\n");
-            WORDS
-        }
-    };
+    let ending = run(alloc, names, shelf, &mut steps);
+    let told = ending.tell(&mut console);
     shelf.give_out(CONSOLE, console);
-    status
+    ending.and_written(CONSOLE, told).status()
 }
 
 /// Reads the base, and runs over it.

@@ -109,7 +109,10 @@ fn runs_come_to_their_replies(rt: HostRuntime) -> Result<(), Fail> {
         let words = texts(alloc, &["run", "base", "journal", "in", "out"])?;
         assert_eq!(rt; response(alloc, words.as_slice(), &mut shelf), case.status);
         assert_eq!(rt; shelf.held("-").unwrap_or(b""), case.console.as_bytes());
-        assert_eq!(rt; shelf.held("journal").unwrap_or(b""), case.journal.as_bytes());
+        assert_eq!(rt;
+            shelf.held("journal").unwrap_or(b""),
+            case.journal.as_bytes()
+        );
         assert_eq!(rt; shelf.held("out").unwrap_or(b""), case.output.as_bytes());
     }
     Ok(())
@@ -120,10 +123,12 @@ fn is_refused(alloc: Global, words: &[&str]) -> Result<bool, AllocError> {
     let mut shelf = shelf_with(alloc, &[], &[PART], "PLAN Baseline A\n")?;
     let words = texts(alloc, words)?;
     let status = response(alloc, words.as_slice(), &mut shelf);
-    Ok(status == 2
-        && shelf.held("-").unwrap_or(b"") == "words\n".as_bytes()
-        && shelf.held("journal").unwrap_or(b"").is_empty()
-        && shelf.held("out").unwrap_or(b"").is_empty())
+    Ok(
+        status == 2
+            && shelf.held("-").unwrap_or(b"") == "words\n".as_bytes()
+            && shelf.held("journal").unwrap_or(b"").is_empty()
+            && shelf.held("out").unwrap_or(b"").is_empty(),
+    )
 }
 
 #[test]

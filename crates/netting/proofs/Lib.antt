@@ -1,5 +1,6 @@
 pub mod Going
 pub mod NetLaws
+pub mod Passed
 pub mod Released
 pub mod Windows
 pub mod Within

@@ -1,5 +1,6 @@
 //! The step of one part.
-ghost use Rattle.std.specs.Prelude.{◌≡◌, ℕ, ◌+◌, ◌-◌, ◌<◌, ◌≤◌, [], List, true, false, length, map, All, IsTrue, IfOk, IfErr, slice_index};
+ghost use Rattle.std.specs.Prelude.{◌≡◌, ℕ, ◌+◌, ◌-◌, ◌<◌, ◌≤◌, [], List, Bool, true, false, length, map, reverse, All, IsTrue, IfOk, IfErr, slice_index};
+ghost use Rattle.planning_rules.specs.Days.{back, working_before};
 ghost use Rattle.planning_rules.specs.Netting.{IsOrder, Netted, limit, exceeds, balances, releases, late_sum, is_too_large, outcome_from};
 ghost use Rattle.plan_schema.specs.Sound.{is_sound_lot};
 ghost use Rattle.lot_sizing.specs.Shortages.{shortage, InReach};
@@ -149,7 +150,21 @@ fn plan_days(alloc: Global, input: &Input) -> Result<Days, NetFault>
     })
 }
 
-/// What is released on each day, and how much of it is late.
+/// The day on which an order for a day is released, and whether the order is late, from the working days before it, the earliest
+/// first. Its work is the same for each lead time.
+fn release_day(passed: &[u16], day: u16, lead: u16) -> (u16, bool)
+    ensures { (calendar : List Bool) → passed.now ≡ reverse (working_before calendar day) → result ≡ back calendar day lead }
+{
+    if lead == 0 {
+        return (day, false);
+    }
+    match passed.len().checked_sub(lead as usize) {
+        Some(place) => (passed[place], false),
+        None => (0, true),
+    }
+}
+
+/// What is released on each day, and how much of it is late. The working days are gone through once.
 fn release_days(
     alloc: Global,
     calendar: &Calendar,
@@ -163,13 +178,17 @@ fn release_days(
     ensures late { IfOk result (λ r. r.1 ≡ late_sum calendar.now lead planned.now) }
 {
     let mut release = vec![in alloc; 0u64; planned.len()]?;
+    let mut passed = Vec::with_capacity(alloc, planned.len())?;
     let mut late: u64 = 0;
     for day in 0..planned.len() {
-        let (at, is_late) = calendar.back(day as u16, lead);
+        let (at, is_late) = release_day(passed.as_slice(), day as u16, lead);
         let on = at as usize;
         release[on] += planned[day];
         if is_late {
             late += planned[day];
+        }
+        if calendar.works(day as u16) {
+            passed.push(day as u16)?;
         }
     }
     Ok((release, late))

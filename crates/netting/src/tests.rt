@@ -108,132 +108,127 @@ fn nets<L: Ledger, R: Abort>(
     Ok(())
 }
 
-// A part of five days, each of which works.
-fn five_days<L: Ledger, R: Abort>(rt: &R, alloc: Global, steps: &mut Steps<L>) -> Result<(), Fail> {
-    let fixed = Lot::Fixed(15);
+// A part of five days, each of which works. All that is released is released on the first day.
+#[derive(Clone, Copy)]
+struct FiveDays {
+    lot: Lot,
+    lead: u16,
+    stock: u64,
+    gross: [u64; 5],
+    sched: [u64; 5],
+    planned: [u64; 5],
+    balance: [u64; 5],
+    released: u64,
+    late: u64,
+}
+
+// 50 are needed on the third day, and 30 are there.
+const LOT_FOR_LOT: FiveDays = FiveDays {
+    lot: Lot::Exact,
+    lead: 2,
+    stock: 30,
+    gross: [0, 0, 50, 0, 0],
+    sched: [0; 5],
+    planned: [0, 0, 20, 0, 0],
+    balance: [30, 30, 0, 0, 0],
+    released: 20,
+    late: 0,
+};
+
+fn nets_five_days<L: Ledger, R: Abort>(
+    rt: &R,
+    alloc: Global,
+    steps: &mut Steps<L>,
+    case: FiveDays,
+) -> Result<(), Fail> {
+    let part = Part {
+        lot: case.lot,
+        lead: case.lead,
+        stock: case.stock,
+        gross: case.gross.as_slice(),
+        sched: case.sched.as_slice(),
+    };
+    let release = [case.released, 0, 0, 0, 0];
+    let expected = Expected {
+        planned: case.planned.as_slice(),
+        balance: case.balance.as_slice(),
+        release: release.as_slice(),
+        late: case.late,
+    };
+    nets(rt, alloc, steps, Calendar::every(5), part, expected)
+}
+
+// The lot rules.
+fn lots<L: Ledger, R: Abort>(rt: &R, alloc: Global, steps: &mut Steps<L>) -> Result<(), Fail> {
+    let rounded = FiveDays {
+        planned: [0, 0, 30, 0, 0],
+        balance: [30, 30, 10, 10, 10],
+        released: 30,
+        ..LOT_FOR_LOT
+    };
     let least = Lot::Least {
         least: 25,
         step: 10,
     };
-    for (lot, lead, stock, gross, sched, planned, balance, first, late) in [
-        // The lot rules, in time and a day too late.
-        (
-            Lot::Exact,
-            2,
-            30,
-            [0, 0, 50, 0, 0],
-            [0; 5],
-            [0, 0, 20, 0, 0],
-            [30, 30, 0, 0, 0],
-            20,
-            0,
-        ),
-        (
-            Lot::Exact,
-            3,
-            30,
-            [0, 0, 50, 0, 0],
-            [0; 5],
-            [0, 0, 20, 0, 0],
-            [30, 30, 0, 0, 0],
-            20,
-            20,
-        ),
-        (
-            fixed,
-            2,
-            30,
-            [0, 0, 50, 0, 0],
-            [0; 5],
-            [0, 0, 30, 0, 0],
-            [30, 30, 10, 10, 10],
-            30,
-            0,
-        ),
-        (
-            least,
-            2,
-            30,
-            [0, 0, 50, 0, 0],
-            [0; 5],
-            [0, 0, 30, 0, 0],
-            [30, 30, 10, 10, 10],
-            30,
-            0,
-        ),
-        (
-            Lot::Period(3),
-            2,
-            30,
-            [0, 0, 50, 10, 10],
-            [0; 5],
-            [0, 0, 40, 0, 0],
-            [30, 30, 20, 10, 0],
-            40,
-            0,
-        ),
-        // Just enough, and one more than there is.
-        (
-            Lot::Exact,
-            2,
-            30,
-            [0, 0, 30, 0, 0],
-            [0; 5],
-            [0; 5],
-            [30, 30, 0, 0, 0],
-            0,
-            0,
-        ),
-        (
-            Lot::Exact,
-            2,
-            30,
-            [0, 0, 31, 0, 0],
-            [0; 5],
-            [0, 0, 1, 0, 0],
-            [30, 30, 0, 0, 0],
-            1,
-            0,
-        ),
-        // Needed on the first day, and a receipt.
-        (
-            Lot::Exact,
-            2,
-            30,
-            [50, 0, 0, 0, 0],
-            [0; 5],
-            [20, 0, 0, 0, 0],
-            [0; 5],
-            20,
-            20,
-        ),
-        (
-            Lot::Exact,
-            2,
-            60,
-            [0, 0, 50, 0, 0],
-            [0, 0, 0, 20, 0],
-            [0; 5],
-            [60, 60, 10, 30, 30],
-            0,
-            0,
-        ),
-    ] {
-        let part = Part {
-            lot,
-            lead,
-            stock,
-            gross: gross.as_slice(),
-            sched: sched.as_slice(),
-        };
-        let release = [first, 0, 0, 0, 0];
-        let expected = Expected {
-            planned: planned.as_slice(),
-            balance: balance.as_slice(),
-            release: release.as_slice(),
-            late,
-        };
-        nets(rt, alloc, steps, Calendar::every(5), part, expected)?;
+    let period = FiveDays {
+        lot: Lot::Period(3),
+        gross: [0, 0, 50, 10, 10],
+        planned: [0, 0, 40, 0, 0],
+        balance: [30, 30, 20, 10, 0],
+        released: 40,
+        ..LOT_FOR_LOT
+    };
+    nets_five_days(rt, alloc, steps, LOT_FOR_LOT)?;
+    for lot in [Lot::Fixed(15), least] {
+        nets_five_days(rt, alloc, steps, FiveDays { lot, ..rounded })?;
+    }
+    nets_five_days(rt, alloc, steps, period)
+}
+
+// A lead time that is a day too long, and a need on the first day.
+fn too_late<L: Ledger, R: Abort>(rt: &R, alloc: Global, steps: &mut Steps<L>) -> Result<(), Fail> {
+    let long_lead = FiveDays {
+        lead: 3,
+        late: 20,
+        ..LOT_FOR_LOT
+    };
+    let first_day = FiveDays {
+        gross: [50, 0, 0, 0, 0],
+        planned: [20, 0, 0, 0, 0],
+        balance: [0; 5],
+        late: 20,
+        ..LOT_FOR_LOT
+    };
+    for case in [long_lead, first_day] {
+        nets_five_days(rt, alloc, steps, case)?;
+    }
+    Ok(())
+}
+
+// Just enough, one more than there is, and a receipt.
+fn enough<L: Ledger, R: Abort>(rt: &R, alloc: Global, steps: &mut Steps<L>) -> Result<(), Fail> {
+    let just_enough = FiveDays {
+        gross: [0, 0, 30, 0, 0],
+        planned: [0; 5],
+        released: 0,
+        ..LOT_FOR_LOT
+    };
+    let one_more = FiveDays {
+        gross: [0, 0, 31, 0, 0],
+        planned: [0, 0, 1, 0, 0],
+        released: 1,
+        ..LOT_FOR_LOT
+    };
+    let receipt = FiveDays {
+        stock: 60,
+        sched: [0, 0, 0, 20, 0],
+        planned: [0; 5],
+        balance: [60, 60, 10, 30, 30],
+        released: 0,
+        ..LOT_FOR_LOT
+    };
+    for case in [just_enough, one_more, receipt] {
+        nets_five_days(rt, alloc, steps, case)?;
     }
     Ok(())
 }
@@ -293,7 +288,9 @@ fn all_cases<L: Ledger, R: Abort>(rt: &R, alloc: Global, blank: Blank) -> Result
 {
     let (book, share) = blank.open::<L>();
     let mut steps = Steps::new(book, share);
-    five_days(rt, alloc, &mut steps)?;
+    lots(rt, alloc, &mut steps)?;
+    too_late(rt, alloc, &mut steps)?;
+    enough(rt, alloc, &mut steps)?;
     weekend(rt, alloc, &mut steps)?;
     too_large(rt, alloc, &mut steps)
 }

@@ -10,6 +10,9 @@ ghost use Rattle.plan_import.specs.BaseFile.{base_records, with_new, with_number
 ghost use Rattle.plan_import.specs.Imported.{Imported};
 ghost use Rattle.plan_import.specs.Told.{Tells, TellsFault};
 
+#[cfg(test)]
+mod tests;
+
 use byte_lines::{ReadAllFault, Source, read_all};
 use csv::{ByteRecord, ReaderBuilder};
 use plan_schema::{Contents, FieldFault, Key, Record, Room};

@@ -1,2 +1,10 @@
 pub mod Split
 pub mod Texts
+pub mod Places
+pub mod Pages
+pub mod Again
+pub mod Forms
+pub mod Refusals
+pub mod Queries
+pub mod Commands
+pub mod CommandsAgain

@@ -1,11 +1,10 @@
 -- Keys and lines inside the text of a reply.
-use Rattle.std.proofs.Common.{◌≡◌, ℕ, suc, zero, ◌<◌, List, [], ◌∷◌, ◌++◌, length, take, drop, get_or, Option, Result, Ok, Err, refl, sym, ap, subst, ◌∙◌, arith, append_assoc}
+use Rattle.std.proofs.Common.{◌≡◌, ℕ, ◌+◌, ◌<◌, List, [], ◌∷◌, ◌++◌, length, map, take, drop, get_or, refl, sym, ap, ◌∙◌, append_assoc, append-nil}
+use Rattle.std.proofs.lemmas.List.{take_more, map-append, take-append-drop}
+use Rattle.std.proofs.lemmas.Grind.{flat_map-append}
 use Rattle.std.specs.List.{flat_map}
 use Rattle.plan_schema.specs.declared.key.Key.{Key}
 use Rattle.plan_schema.specs.declared.key.Key.TheVariants as keys
-use Rattle.plan_schema.specs.declared.outside.SinkFault.{SinkFault}
-use Rattle.plan_schema.specs.Outside.{Wrote}
-use Rattle.plan_schema.proofs.Writes.{wrote_then, wrote_short}
 use Rattle.row_text.specs.Spelling.{spaced, key_fields, key_text}
 use Rattle.command_words.specs.Replies.{ended}
 
@@ -28,20 +27,17 @@ behind_key before word text key is =
     let whole : (32 ∷ word) ++ 32 ∷ text ≡ spaced (word ∷ key_fields key) = ap (λ t. (32 ∷ word) ++ t) tail in
     append_assoc before (32 ∷ word) (32 ∷ text) ∙ ap (λ t. before ++ t) whole
 
--- lines before one, the line, and those behind it
-pub ended_parts : (lines : List (List ℕ)) (i : ℕ) → i < length lines → flat_map ended lines ≡ flat_map ended (take i lines) ++ (ended (get_or lines i []) ++ flat_map ended (drop (suc i) lines))
-ended_parts [] i h = elim h [ ]
-ended_parts (line ∷ lines) zero h = refl
-ended_parts (line ∷ lines) (suc i) h =
-    ap (λ t. ended line ++ t) (ended_parts lines i (omega (arith, h))) ∙ sym (append_assoc (ended line) (flat_map ended (take i lines)) (ended (get_or lines i []) ++ flat_map ended (drop (suc i) lines)))
+-- the lines up to one, and that line
+pub ended_more : {A : Type 0} (text : A → List ℕ) (lines : List A) (i : ℕ) (line : A) (bytes : List ℕ) → i < length lines → line ≡ get_or lines i line → bytes ≡ text line → flat_map ended (map text (take (i + 1) lines)) ≡ flat_map ended (map text (take i lines)) ++ ended bytes
+ended_more text lines i line bytes within is shown =
+    let more : take (i + 1) lines ≡ take i lines ++ line ∷ [] = take_more lines i line within ∙ ap (λ l. take i lines ++ l ∷ []) (sym is) in
+    ap (λ t. flat_map ended (map text t)) more ∙ ap (flat_map ended) (map-append text (take i lines) (line ∷ []))
+    ∙ flat_map-append ended (map text (take i lines)) (text line ∷ [])
+    ∙ ap (λ t. flat_map ended (map text (take i lines)) ++ t) (append-nil (ended (text line)) ∙ ap ended (sym shown))
 
-module _ {S : Type 0} (taken : S → Option (List ℕ)) (faults : S → ℕ) (label : S → List ℕ) where
-  -- a second text behind one that is known to be written whole
-  pub wrote_behind : {T U : Type 0} (old mid new : S) (a b : List ℕ) (x : T) (q : Result T SinkFault) (r : Result U SinkFault) → q ≡ Ok x → Wrote taken faults label old mid a q → Wrote taken faults label mid new b r → Wrote taken faults label old new (a ++ b) r
-  wrote_behind old mid new a b x (Ok y) r e h k = wrote_then taken faults label old mid new a b y r h k
-  wrote_behind old mid new a b x (Err f) r e h k = absurd (let never : ⊥ = cc in never)
-
-  -- a front of a second text behind one that is known to be written whole
-  pub wrote_part : {T U : Type 0} (old mid new : S) (a b rest : List ℕ) (x : T) (q : Result U SinkFault) (e : SinkFault) → q ≡ Err e → Wrote taken faults label old mid a (Ok x) → Wrote taken faults label mid new b q → Wrote {T = U} taken faults label old new (a ++ (b ++ rest)) (Err e)
-  wrote_part old mid new a b rest x q e is h k =
-      wrote_then taken faults label old mid new a (b ++ rest) x (Err e) h (wrote_short taken faults label mid new b rest e (subst (λ r. Wrote taken faults label mid new b r) is k))
+-- the lines up to one, that line, and those behind it
+pub ended_rest : {A : Type 0} (text : A → List ℕ) (lines : List A) (i : ℕ) (line : A) (bytes : List ℕ) → i < length lines → line ≡ get_or lines i line → bytes ≡ text line → flat_map ended (map text lines) ≡ (flat_map ended (map text (take i lines)) ++ ended bytes) ++ flat_map ended (map text (drop (i + 1) lines))
+ended_rest text lines i line bytes within is shown =
+    ap (λ l. flat_map ended (map text l)) (sym (take-append-drop (i + 1) lines)) ∙ ap (flat_map ended) (map-append text (take (i + 1) lines) (drop (i + 1) lines))
+    ∙ flat_map-append ended (map text (take (i + 1) lines)) (map text (drop (i + 1) lines))
+    ∙ ap (λ t. t ++ flat_map ended (map text (drop (i + 1) lines))) (ended_more text lines i line bytes within is shown)

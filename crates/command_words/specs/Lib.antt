@@ -1,4 +1,9 @@
 pub mod Words
+pub mod Verbs
 pub mod Commands
 pub mod Replies
+pub mod Pages
+pub mod Forms
+pub mod Spelling
+pub mod Laws
 pub use Rattle.plan_schema.specs.Outside

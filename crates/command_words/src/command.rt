@@ -1,9 +1,10 @@
 //! Commands.
+use crate::query::QueryText;
 use plan_schema::{CellName, Day, Key, Name, Record};
 
-/// What a session asks for.
-#[derive(Clone, Copy, Debug)]
-pub enum Command {
+/// What a session asks for, read from a line that lives for `'a`.
+#[derive(Debug, Drop, PartialEq, Eq)]
+pub enum Command<'a> {
     /// States who speaks from now on.
     Hello(Name),
     /// How many changes there are so far.
@@ -17,7 +18,7 @@ pub enum Command {
         scenario: Name,
         key: Key,
     },
-    /// Puts the rows of the next lines, as many as the count says.
+    /// Puts the rows of the next lines, as many as the count says: 1 to 1,000.
     Load {
         scenario: Name,
         count: u32,
@@ -57,6 +58,12 @@ pub enum Command {
     Atp {
         scenario: Name,
         part: Name,
+    },
+    /// The parts that meet a condition, with some of their figures. The query's text is kept as it stands in the line, and isn't
+    /// looked into.
+    Select {
+        scenario: Name,
+        query: QueryText<'a>,
     },
     /// Frees what no scenario shows any more.
     Reclaim,

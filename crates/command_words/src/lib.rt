@@ -2,16 +2,29 @@
 #![tactic(auto)]
 
 mod command;
+mod fields;
+mod laws;
 mod line;
 mod lines;
+mod page;
+mod query;
 mod read;
 mod reply;
+mod verb;
 mod write;
 
 pub use command::Command;
+pub use laws::{
+    commands_have_one_spelling, refusals_have_one_spelling, replies_tell_their_form,
+    words_are_read_again,
+};
 pub use line::is_blank;
 pub use lines::Lines;
 pub use plan_schema::CellName;
-pub use read::read_line;
+pub use query::QueryText;
+pub use read::{read_line, read_row};
 pub use reply::{Bad, Reply};
 pub use write::write_reply;
+
+#[cfg(test)]
+mod tests;

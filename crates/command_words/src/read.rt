@@ -1,28 +1,43 @@
-//! Lines as commands.
-ghost use Rattle.std.specs.Prelude.{◌≡◌, ◌≤◌, length};
+//! Lines as commands, and as the rows of a LOAD.
+ghost use Rattle.std.specs.Prelude.{◌≡◌, ◌≤◌, true, length, IfOk};
+ghost use Rattle.plan_schema.specs.Sound.{is_sound_row};
 ghost use Rattle.row_text.specs.Row.{text_at};
 ghost use Rattle.row_text.specs.Texts.{texts};
 ghost use Rattle.command_words.specs.Commands as spec;
+ghost use Rattle.command_words.specs.Spelling.{is_sound_command};
+ghost use Rattle.command_words.specs.Verbs.{verb_of};
 ghost use Rattle.command_words.specs.Words.{words_of};
 ghost use Rattle.arrayvec.specs.ArrayVec.{array_vec_len};
 
 use crate::command::Command;
+use crate::fields;
 use crate::reply::Bad;
+use crate::verb::Verb;
 use arrayvec::ArrayVec;
-use plan_schema::FieldFault;
-use row_text::{end_at, is_word, name_at, text_at};
+use plan_schema::{FieldFault, Key, Record};
+use row_text::{read_record, text_at};
 
 /// The words of a line: one of at most 1,024 bytes has at most 512.
 type Words<'a> = ArrayVec<&'a [u8], 512>;
 
 /// The command that a line is, or the first fault of it. Takes no memory.
-#[tactic(auto, unfolding(crate::specs::Commands::command_of))]
-pub fn read_line(line: &[u8]) -> Result<Command, Bad>
+pub fn read_line<'a>(line: &'a [u8]) -> Result<Command<'a>, Bad>
     requires { length line.now ≤ 1024 }
-    ensures { result ≡ spec.command_of line.now }
+    ensures value { result ≡ spec.command_of line.now }
+    ensures sound { IfOk result (λ command. is_sound_command command ≡ true) }
+{
+    command_in(line)
+}
+
+/// The row that a line inside a LOAD is, or its first faulty field, where field 0 is the table word. Takes no memory.
+#[tactic(auto, unfolding(crate::specs::Commands::row_of))]
+pub fn read_row(line: &[u8]) -> Result<(Key, Record), FieldFault>
+    requires { length line.now ≤ 1024 }
+    ensures value { result ≡ spec.row_of line.now }
+    ensures sound { IfOk result (λ row. is_sound_row row.0 row.1 ≡ true) }
 {
     let words = words_in(line);
-    command_of_words(words.as_slice())
+    read_record(words.as_slice())
 }
 
 fn words_in(line: &[u8]) -> Words<'_>
@@ -38,28 +53,38 @@ fn words_in(line: &[u8]) -> Words<'_>
     words
 }
 
-fn command_of_words(words: &[&[u8]]) -> Result<Command, Bad>
-    ensures { result ≡ spec.first_word (text_at (texts words.now) 0) (texts words.now) }
+#[tactic(auto, unfolding(crate::specs::Commands::command_of))]
+fn command_in<'a>(line: &'a [u8]) -> Result<Command<'a>, Bad>
+    requires { length line.now ≤ 1024 }
+    ensures { result ≡ spec.command_of line.now }
+{
+    let words = words_in(line);
+    command_of_words(line, words.as_slice())
+}
+
+fn command_of_words<'a>(line: &'a [u8], words: &[&'a [u8]]) -> Result<Command<'a>, Bad>
+    requires { length line.now ≤ 1024 }
+    ensures { result ≡ spec.with_word (text_at (texts words.now) 0) line.now (texts words.now) }
 {
     match text_at(words, 0) {
-        Ok(word) => command_of_word(word, words),
+        Ok(word) => command_of_word(word, line, words),
         Err(_) => Err(Bad::Word),
     }
 }
 
-#[tactic(auto, unfolding(crate::specs::Commands::command_of_word))]
-fn command_of_word(word: &[u8], words: &[&[u8]]) -> Result<Command, Bad>
-    ensures { result ≡ spec.command_of_word word.now (texts words.now) }
+fn command_of_word<'a>(word: &[u8], line: &'a [u8], words: &[&'a [u8]]) -> Result<Command<'a>, Bad>
+    requires { length line.now ≤ 1024 }
+    ensures { result ≡ spec.with_verb (verb_of word.now) line.now (texts words.now) }
 {
-    if is_word(word, b"PLAN") {
-        return in_fields(plan(words));
+    match Verb::read(word) {
+        Some(verb) => in_fields(command_of_verb(verb, line, words)),
+        None => Err(Bad::Word),
     }
-    Err(Bad::Word)
 }
 
 /// A fault of a field as a fault of the line.
-fn in_fields(command: Result<Command, FieldFault>) -> Result<Command, Bad>
-    ensures { result ≡ spec.in_fields command }
+fn in_fields<'a>(command: Result<Command<'a>, FieldFault>) -> Result<Command<'a>, Bad>
+    ensures { result ≡ spec.in_fields command.entry }
 {
     match command {
         Ok(command) => Ok(command),
@@ -67,12 +92,34 @@ fn in_fields(command: Result<Command, FieldFault>) -> Result<Command, Bad>
     }
 }
 
-#[tactic(auto, unfolding(crate::specs::Commands::plan_of))]
-fn plan(words: &[&[u8]]) -> Result<Command, FieldFault>
-    ensures { result ≡ spec.plan_of (texts words.now) }
+#[tactic(auto, unfolding(crate::specs::Commands::command_of_verb))]
+fn command_of_verb<'a>(
+    verb: Verb,
+    line: &'a [u8],
+    words: &[&'a [u8]],
+) -> Result<Command<'a>, FieldFault>
+    requires { length line.now ≤ 1024 }
+    ensures { result ≡ spec.command_of_verb verb line.now (texts words.now) }
 {
-    let scenario = name_at(words, 1)?;
-    let part = name_at(words, 2)?;
-    end_at(words, 3)?;
-    Ok(Command::Plan { scenario, part })
+    match verb {
+        Verb::Hello => fields::hello(words),
+        Verb::Point => fields::point(words),
+        Verb::Put => fields::put(words),
+        Verb::Del => fields::del(words),
+        Verb::Load => fields::load(words),
+        Verb::Branch => fields::branch(words),
+        Verb::Share => fields::share(words),
+        Verb::Update => fields::update(words),
+        Verb::Commit => fields::commit(words),
+        Verb::Drop => fields::drop_scenario(words),
+        Verb::Tree => fields::tree(words),
+        Verb::Show => fields::show(words),
+        Verb::Level => fields::level(words),
+        Verb::Plan => fields::plan(words),
+        Verb::Peg => fields::peg(words),
+        Verb::Atp => fields::atp(words),
+        Verb::Select => fields::select(line, words),
+        Verb::Reclaim => fields::reclaim(words),
+        Verb::Quit => fields::quit(words),
+    }
 }

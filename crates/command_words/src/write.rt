@@ -1,65 +1,48 @@
 //! Replies as text.
-ghost use Rattle.std.specs.Prelude.{◌≡◌, ◌+◌, ◌≤◌, ◌++◌, ◌∷◌, [], length};
-ghost use Rattle.std.specs.List.{flat_map};
+ghost use Rattle.std.specs.Prelude.{◌≡◌, ◌+◌, ◌≤◌, ◌++◌, ◌∷◌, [], length, map};
 ghost use Rattle.arrayvec.specs.ArrayVec.{array_vec_len};
 ghost use Rattle.plan_schema.specs.Outside.{Wrote};
 ghost use Rattle.row_text.specs.Spelling.{spaced, words_text};
-ghost use Rattle.command_words.specs.Replies.{ended, room_word, rule_word, refusal_words, bad_words, head_words, more_lines, point_word, reply_text};
+ghost use Rattle.command_words.specs.Pages.{Gathered};
+ghost use Rattle.command_words.specs.Replies as spec;
+ghost use Rattle.command_words.specs.Replies.{ended, room_word, rule_word, refusal_words, bad_words, head_words, point_word, reply_text};
 
-use crate::lines::Lines;
+use crate::page::{Page, flush, put, put_lines};
 use crate::reply::{Bad, Reply};
-use byte_lines::{Sink, SinkFault, write_all};
+use byte_lines::{Sink, SinkFault};
 use itoa::Buffer;
 use plan_schema::{Name, Refusal, Room, Rule};
 use row_text::{RowText, key_bytes, push_day, push_number, push_word};
 
-/// Writes the one spelling of a reply. Takes no memory.
+/// Writes the one spelling of a reply: by one call of the sink where it has at most 4,096 bytes. Takes no memory.
 pub fn write_reply<S: Sink>(reply: &Reply, sink: &mut S) -> Result<(), SinkFault>
     ensures { Wrote S.taken S.faults S.label sink.old sink.new (reply_text reply.now) result }
 {
-    let head = head_bytes(reply);
-    write_from(head.as_slice(), reply, sink)
+    let mut page = Page::new();
+    put_reply(&mut page, reply, sink)?;
+    flush(&mut page, sink)
 }
 
-/// Writes the first line of a reply, and the lines behind it.
-fn write_from<S: Sink>(head: &[u8], reply: &Reply, sink: &mut S) -> Result<(), SinkFault>
-    ensures { Wrote S.taken S.faults S.label sink.old sink.new (head.now ++ flat_map ended (more_lines reply.now)) result }
+/// Adds the text of a reply.
+#[tactic(auto, unfolding(crate::specs::Replies::reply_text))]
+fn put_reply<S: Sink>(page: &mut Page, reply: &Reply, sink: &mut S) -> Result<(), SinkFault>
+    ensures { Gathered S.taken S.faults S.label sink.old sink.new page.old.items page.new.items (reply_text reply.now) result }
 {
-    write_all(sink, head)?;
-    write_more(reply, sink)
+    put(page, head_bytes(reply).as_slice(), sink)?;
+    put_lines(page, more_lines(reply), sink)
 }
 
-/// Writes the lines behind the first.
-fn write_more<S: Sink>(reply: &Reply, sink: &mut S) -> Result<(), SinkFault>
-    ensures { Wrote S.taken S.faults S.label sink.old sink.new (flat_map ended (more_lines reply.now)) result }
+/// The lines behind the first.
+fn more_lines(reply: &Reply) -> &[Vec<u8>]
+    ensures { map (λ line. line.items) result.now ≡ spec.more_lines reply.now }
 {
     match reply {
-        Reply::Rows(_, lines) => write_lines(lines, sink),
-        Reply::Ok(_) => Ok(()),
-        Reply::No(_, _) => Ok(()),
-        Reply::Bad(_) => Ok(()),
-        Reply::Mem => Ok(()),
+        Reply::Rows(_, lines) => lines.as_slice(),
+        Reply::Ok(_) => &[],
+        Reply::No(_, _) => &[],
+        Reply::Bad(_) => &[],
+        Reply::Mem => &[],
     }
-}
-
-/// Writes lines, each with its line feed.
-fn write_lines<S: Sink>(lines: &Lines, sink: &mut S) -> Result<(), SinkFault>
-    ensures { Wrote S.taken S.faults S.label sink.old sink.new (flat_map ended lines.now) result }
-{
-    for line in lines.as_slice() {
-        if let Err(fault) = write_line(line.as_slice(), sink) {
-            return Err(fault);
-        }
-    }
-    Ok(())
-}
-
-/// Writes a line with its line feed.
-fn write_line<S: Sink>(line: &[u8], sink: &mut S) -> Result<(), SinkFault>
-    ensures { Wrote S.taken S.faults S.label sink.old sink.new (ended line.now) result }
-{
-    write_all(sink, line)?;
-    write_all(sink, b"\n")
 }
 
 /// The first line of a reply.

@@ -1,12 +1,12 @@
-use Rattle.std.proofs.Common.{◌++◌, ◌∙◌, subst}
-use Rattle.std.specs.List.{flat_map}
-use Rattle.plan_schema.specs.Outside.{Wrote}
-use Rattle.command_words.specs.Replies.{ended, more_lines, reply_text}
+use Rattle.std.proofs.lemmas.Result.{err_from_is_err_and}
+use Rattle.command_words.specs.Replies.{reply_text}
+use Rattle.command_words.proofs.Pages.{gathered_written, gathered_front}
 use Rattle.command_words.proofs.write.write_reply.Goals as goal
 
 pub returns : goal.returns
-unfolding reply_text
-returns g c =
-    subst (λ t. Wrote g.S.Sink.taken g.S.Sink.faults g.S.Sink.label c.args.sink.now c.write_from.new.sink (t ++ flat_map ended (more_lines c.args.reply.now)) c.write_from.result)
-    (c.as_slice.ensures.value ∙ c.head_bytes-head.ensures)
-    c.write_from.ensures
+returns g c = gathered_written g.S.Sink.taken g.S.Sink.faults g.S.Sink.label _ _ _ _ _ (reply_text c.args.reply.now) _ _ _ c.new-page.ensures c.in_ok-put_reply.was c.put_reply.ensures c.flush.ensures.wrote
+
+pub returns-in_err-put_reply : goal.returns-in_err-put_reply
+returns-in_err-put_reply g c =
+    let p = err_from_is_err_and c.from_residual.result c.from_residual.ensures.1 in
+    rw (p.1, p.2) (gathered_front g.S.Sink.taken g.S.Sink.faults g.S.Sink.label _ _ _ _ (reply_text c.args.reply.now) _ _ c.new-page.ensures c.in_err-put_reply.was c.put_reply.ensures)

@@ -1,0 +1,24 @@
+//! What can be told from words: lines from their words, and replies, refusals and keys from their texts.
+ghost use Rattle.command_words.specs.Laws.{WordsAreReadAgain, CommandIsReadAlone, CommandIsReadAgain, ReplyTellsItsForm, RefusalsDiffer, KeysDiffer};
+
+/// The words that a line was made of are its words.
+pub fn words_are_read_again()
+    ensures { WordsAreReadAgain }
+{}
+
+/// A sound command is read from its spelling, and from no other words.
+pub fn commands_have_one_spelling()
+    ensures again { CommandIsReadAgain }
+    ensures alone { CommandIsReadAlone }
+{}
+
+/// The first line of a reply tells the reply's kind, its point and how many lines follow.
+pub fn replies_tell_their_form()
+    ensures { ReplyTellsItsForm }
+{}
+
+/// Refusals with the same words are the same, and so are keys with the same key form.
+pub fn refusals_have_one_spelling()
+    ensures refusals { RefusalsDiffer }
+    ensures keys { KeysDiffer }
+{}

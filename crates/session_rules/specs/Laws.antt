@@ -1,0 +1,27 @@
+-- What holds of legal sessions.
+use Rattle.std.specs.Prelude.{◌≤◌, ℕ, List, [], ◌∷◌, ◌++◌, fold}
+use Rattle.plan_schema.specs.declared.name.Name.{Name}
+use Rattle.plan_schema.specs.declared.change.Entry.{Entry}
+use Rattle.plan_schema.specs.Contents.{Contents}
+use Rattle.command_words.specs.declared.reply.Reply.{Reply}
+use Rattle.session_rules.specs.Requests.{Request, user_after}
+use Rattle.session_rules.specs.Sessions.{IsReply, AreReplies, point_after}
+
+-- the last point after some replies, and who speaks after some requests
+abbrev pub last_point : ℕ → List Reply → ℕ
+last_point last given = fold point_after last given
+
+abbrev pub last_user : Name → List Request → Name
+last_user user requests = fold (λ u request. user_after u request.wish) user requests
+
+-- legal replies, and then a reply to one more request, are legal
+abbrev pub RepliesGrow : Type 0
+RepliesGrow = (base : Contents) (history : List Entry) (session floor last : ℕ) (user : Name) (requests : List Request) (given : List Reply) (request : Request) (reply : Reply)
+    → AreReplies base history session floor last user requests given
+    → IsReply base history session floor (last_point last given) (last_user user requests) request reply
+    → AreReplies base history session floor last user (requests ++ request ∷ []) (given ++ reply ∷ [])
+
+-- points don't go back within a session
+abbrev pub PointsDontFall : Type 0
+PointsDontFall = (base : Contents) (history : List Entry) (session floor last : ℕ) (user : Name) (requests : List Request) (given : List Reply)
+    → AreReplies base history session floor last user requests given → last ≤ last_point last given

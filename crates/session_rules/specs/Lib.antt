@@ -1,0 +1,7 @@
+pub mod Requests
+pub mod Answers
+pub mod Sessions
+pub mod Runs
+pub mod Laws
+pub use Rattle.plan_schema.specs.Key
+pub use Rattle.plan_schema.specs.Contents

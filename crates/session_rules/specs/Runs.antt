@@ -1,0 +1,61 @@
+-- Legal runs: sessions in rounds over one history.
+use Rattle.std.specs.Prelude.{◌≡◌, ℕ, ◌+◌, ◌≤◌, ◌&&◌, nat_le, nat_lt, ◌==◌, List, [], ◌∷◌, ◌++◌, length, count_by}
+use Rattle.std.specs.List.{flat_map, AllByRecursion}
+use Rattle.plan_schema.specs.declared.change.Entry.{Entry}
+use Rattle.plan_schema.specs.Contents.{Contents}
+use Rattle.command_words.specs.declared.reply.Reply.{Reply}
+use Rattle.command_words.specs.declared.reply.Reply.TheVariants as replies
+use Rattle.scenario_rules.specs.Journal.{IsLegal}
+use Rattle.session_rules.specs.Requests.{Wish, Makes, Request, requests_of}
+use Rattle.session_rules.specs.Sessions.{IsSession, point_after}
+
+-- what one session was sent and wrote, and its replies
+pub record Desk : Type 0 where
+  pub input : List ℕ
+  pub output : List ℕ
+  pub replies_given : List Reply
+
+-- how many entries are of sessions from `first` up to, and without, `end`
+abbrev pub entries_of : List Entry → ℕ → ℕ → ℕ
+entries_of history first end = count_by (λ entry. nat_le first entry.session && nat_lt entry.session end) history
+
+-- the point of an accepted change
+abbrev pub accepted_point : Wish → Reply → List ℕ
+accepted_point (Makes change) (replies.Ok point) = point ∷ []
+accepted_point wish reply = []
+
+abbrev pub accepted_points : List Request → List Reply → List ℕ
+accepted_points (request ∷ requests) (reply ∷ more) = accepted_point request.wish reply ++ accepted_points requests more
+accepted_points requests more = []
+
+-- the points of the changes that were accepted at some desks, and in some rounds
+abbrev pub accepted_at : List Desk → List ℕ
+accepted_at desks = flat_map (λ desk. accepted_points (requests_of desk.input) desk.replies_given) desks
+
+abbrev pub accepted_in : List (List Desk) → List ℕ
+accepted_in rounds = flat_map accepted_at rounds
+
+module _ (base : Contents) (history : List Entry) where
+  -- a session at a desk is legal, and prints no point above the ceiling
+  pub record IsDesk (session floor ceiling : ℕ) (desk : Desk) : Type 0 where
+    pub legal : IsSession base history session floor (requests_of desk.input) desk.replies_given desk.output
+    pub below : AllByRecursion (λ reply. point_after 0 reply ≤ ceiling) desk.replies_given
+
+  -- the desks of a round, numbered from `session` on
+  abbrev pub AreDesks : ℕ → ℕ → ℕ → List Desk → Type 0
+  AreDesks floor ceiling session [] = Unit {0}
+  AreDesks floor ceiling session (desk ∷ desks) = IsDesk session floor ceiling desk × AreDesks floor ceiling (session + 1) desks
+
+  -- rounds, the first desk of which has the number `session`: the floor of a round is the number of entries of earlier rounds, and
+  -- its ceiling that number and the entries of the round itself
+  abbrev pub AreRounds : ℕ → List (List Desk) → Type 0
+  AreRounds session [] = Unit {0}
+  AreRounds session (desks ∷ rounds) =
+      AreDesks (entries_of history 0 session) (entries_of history 0 (session + length desks)) session desks
+      × AreRounds (session + length desks) rounds
+
+  -- a legal run: the history is legal, so is each session, and each entry is printed by exactly one accepted change
+  pub record IsRun (rounds : List (List Desk)) : Type 0 where
+    pub history_is : IsLegal base history
+    pub sessions : AreRounds 1 rounds
+    pub once : (point : ℕ) → 1 ≤ point → point ≤ length history → count_by (λ p. p == point) (accepted_in rounds) ≡ 1

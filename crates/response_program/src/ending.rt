@@ -1,5 +1,9 @@
 //! How a run ends.
-ghost use Rattle.std.specs.Prelude.{◌≡◌, ◌≢◌, ◌≤◌, length};
+ghost use Rattle.std.specs.Prelude.{◌≡◌, ◌≢◌, ◌≤◌, ◌∷◌, ◌++◌, [], length};
+ghost use Rattle.plan_schema.specs.Outside.{Wrote};
+ghost use Rattle.command_words.specs.Replies as words;
+ghost use Rattle.response_program.specs.Outcomes as spec;
+ghost use Rattle.response_program.specs.Outcomes.{outcome_of};
 ghost use Rattle.arrayvec.specs.ArrayVec.{array_vec_len};
 
 use byte_lines::{Served, ShelfFault, Sink, SinkFault, write_all};
@@ -21,7 +25,9 @@ pub enum Ending<'a> {
 
 impl<'a> Ending<'a> {
     /// What a part of a shelf that can't be had comes to.
-    pub fn of_open(name: &'a str, fault: ShelfFault) -> Ending<'a> {
+    pub fn of_open(name: &'a str, fault: ShelfFault) -> Ending<'a>
+        ensures { outcome_of result ≡ spec.of_open name.now fault }
+    {
         match fault {
             ShelfFault::Failed => Ending::Open(name),
             ShelfFault::Memory => Ending::Memory,
@@ -29,7 +35,9 @@ impl<'a> Ending<'a> {
     }
 
     /// What a base that wasn't read comes to.
-    pub fn of_import(name: &'a str, fault: ImportFault) -> Ending<'a> {
+    pub fn of_import(name: &'a str, fault: ImportFault) -> Ending<'a>
+        ensures { outcome_of result ≡ spec.of_import name.now fault }
+    {
         match fault {
             ImportFault::Read => Ending::Read(name),
             ImportFault::Memory => Ending::Memory,
@@ -38,7 +46,9 @@ impl<'a> Ending<'a> {
     }
 
     /// What the end of the session comes to.
-    pub fn of_served(input: &'a str, output: &'a str, served: Served) -> Ending<'a> {
+    pub fn of_served(input: &'a str, output: &'a str, served: Served) -> Ending<'a>
+        ensures { outcome_of result ≡ spec.of_served input.now output.now served }
+    {
         match served {
             Served::Ended(_) => Ending::Done,
             Served::ReadFault => Ending::Read(input),
@@ -49,7 +59,9 @@ impl<'a> Ending<'a> {
     }
 
     /// The ending after something more was written under a name. Want of memory tops all; else the first fault stays.
-    pub fn and_written(self, name: &'a str, written: Result<(), SinkFault>) -> Ending<'a> {
+    pub fn and_written(self, name: &'a str, written: Result<(), SinkFault>) -> Ending<'a>
+        ensures { outcome_of result ≡ spec.and_written (outcome_of self.entry) name.now written }
+    {
         match written {
             Ok(()) => self,
             Err(SinkFault::Memory) => Ending::Memory,
@@ -62,7 +74,8 @@ impl<'a> Ending<'a> {
 
     /// The status of the program.
     pub fn status(&self) -> u8
-        ensures { result ≢ 2 }
+        ensures value { result ≡ spec.status_of (outcome_of self.now) }
+        ensures known { result ≢ 2 }
     {
         match self {
             Ending::Done => 0,
@@ -77,7 +90,7 @@ impl<'a> Ending<'a> {
 
     /// Writes the line that tells it.
     pub fn tell<K: Sink>(&self, console: &mut K) -> Result<(), SinkFault>
-        ensures { K.label console.new ≡ K.label console.old }
+        ensures { Wrote K.taken K.faults K.label console.old console.new (spec.console_line (outcome_of self.now)) result }
     {
         match self {
             Ending::Done => write_all(console, b"entries 0 netted 0 reused 0 dropped 0\n"),
@@ -93,15 +106,24 @@ impl<'a> Ending<'a> {
 
 /// Writes what failed, and the name of the file.
 fn tell_of<K: Sink>(console: &mut K, word: &[u8], name: &str) -> Result<(), SinkFault>
-    ensures { K.label console.new ≡ K.label console.old }
+    ensures { Wrote K.taken K.faults K.label console.old console.new (word.now ++ (name.now ++ 10 ∷ [])) result }
 {
     write_all(console, word)?;
+    tell_name(console, name)
+}
+
+/// Writes the name of a file, and ends the line.
+fn tell_name<K: Sink>(console: &mut K, name: &str) -> Result<(), SinkFault>
+    ensures { Wrote K.taken K.faults K.label console.old console.new (name.now ++ 10 ∷ []) result }
+{
     write_all(console, name.as_bytes())?;
     write_all(console, b"\n")
 }
 
 /// The line for a base that was refused.
-fn base_line(fault: ImportFault) -> RowText {
+fn base_line(fault: ImportFault) -> RowText
+    ensures { result.items ≡ spec.console_line (spec.Refused fault) }
+{
     let mut text = RowText::new();
     let _ = text.try_extend_from_slice(b"base");
     match fault {
@@ -128,7 +150,8 @@ fn base_line(fault: ImportFault) -> RowText {
 
 /// The word for a rule that a field breaks.
 fn rule_word(rule: Rule) -> &'static [u8]
-    ensures { length result.now ≤ 20 }
+    ensures word { result.now ≡ words.rule_word rule }
+    ensures short { length result.now ≤ 20 }
 {
     match rule {
         Rule::Shape => b"shape",
@@ -140,7 +163,8 @@ fn rule_word(rule: Rule) -> &'static [u8]
 
 /// The word for what a base has too much of.
 fn room_word(room: Room) -> &'static [u8]
-    ensures { length result.now ≤ 20 }
+    ensures word { result.now ≡ words.room_word room }
+    ensures short { length result.now ≤ 20 }
 {
     match room {
         Room::Bytes => b"bytes",

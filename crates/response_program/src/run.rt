@@ -1,11 +1,15 @@
 //! A run: one session over a base.
-ghost use Rattle.std.specs.Prelude.{◌≡◌, ◌≢◌, ◌↔◌, true, false, map, string_bytes};
-ghost use Rattle.response_program.specs.Words.{is_run};
+ghost use Rattle.std.specs.Prelude.{◌≡◌, ◌≢◌, true, false, map, string_bytes};
 ghost use Rattle.plan_schema.specs.Base.{is_base};
+ghost use Rattle.response_program.specs.Views.{view};
+ghost use Rattle.response_program.specs.Outcomes.{outcome_of};
+ghost use Rattle.response_program.specs.Runs.{Differ, HasRun, HasRunDesk, HasRunOver, HasServedDesk, names_of};
+ghost use Rattle.response_program.specs.Words.{is_run};
+ghost use Rattle.response_program.specs.Responses.{HasResponded, HasRefused, names_in};
 
 use crate::ending::Ending;
 use crate::words::{RunWords, read_words};
-use byte_lines::{Served, Shelf, write_all};
+use byte_lines::{Served, Shelf, ShelfFault, SinkFault, write_all};
 use plan_import::import;
 use plan_schema::{Contents, Steps};
 use sessions::serve_first;
@@ -19,6 +23,9 @@ const CONSOLE: &str = "-";
 /// The status of words that aren't the program's.
 const WORDS: u8 = 2;
 
+/// The status of want of memory.
+const NO_MEMORY: u8 = 1;
+
 /// The first line of a journal.
 const JOURNAL_HEAD: &[u8] = b"plan-journal 2\n";
 
@@ -26,25 +33,32 @@ const JOURNAL_HEAD: &[u8] = b"plan-journal 2\n";
 /// 1 for want of memory, 2 where the words aren't the program's, 3 where the base is refused, 4, 5 and 6 where a file couldn't be
 /// opened, read and written, and 7 where the input passed its limit.
 pub fn response<H: Shelf>(alloc: Global, words: &[String], shelf: &mut H) -> u8
-    ensures words { (result ≡ 2) ↔ (is_run (map string_bytes words.now) ≡ false) }
+    ensures run { is_run (map string_bytes words.now) ≡ true
+        → HasResponded (view H.held H.open_faults H.read_faults H.write_faults shelf.old) (view H.held H.open_faults H.read_faults H.write_faults shelf.new) (names_in (map string_bytes words.now)) result }
+    ensures words { is_run (map string_bytes words.now) ≡ false
+        → HasRefused (view H.held H.open_faults H.read_faults H.write_faults shelf.old) (view H.held H.open_faults H.read_faults H.write_faults shelf.new) result }
 {
     match read_words(words) {
         Some(names) => counted::<Brand, H>(alloc, &names, shelf, Blank::new(1)),
-        None => {
-            refuse(shelf);
-            WORDS
-        }
+        None => refuse(shelf),
     }
 }
 
 /// Tells the console that the words aren't the program's.
-fn refuse<H: Shelf>(shelf: &mut H) {
-    let Ok(console) = shelf.make_out(CONSOLE) else {
-        return;
+fn refuse<H: Shelf>(shelf: &mut H) -> u8
+    ensures { HasRefused (view H.held H.open_faults H.read_faults H.write_faults shelf.old) (view H.held H.open_faults H.read_faults H.write_faults shelf.new) result }
+{
+    let mut console = match shelf.make_out(CONSOLE) {
+        Ok(console) => console,
+        Err(ShelfFault::Memory) => return NO_MEMORY,
+        Err(ShelfFault::Failed) => return WORDS,
     };
-    let mut console = console;
-    let _ = write_all(&mut console, b"words\n");
+    let told = write_all(&mut console, b"words\n");
     shelf.give_out(CONSOLE, console);
+    match told {
+        Err(SinkFault::Memory) => NO_MEMORY,
+        Ok(()) | Err(SinkFault::Failed) => WORDS,
+    }
 }
 
 /// A run, with a counter of its own.
@@ -57,7 +71,8 @@ fn counted<L: Ledger, H: Shelf>(
     requires name { blank.name ≡ L.name }
     requires parts { blank.parts ≡ L.parts }
     requires one { blank.parts ≡ 1 }
-    ensures { result ≢ 2 }
+    requires differ { Differ (names_of names.now) }
+    ensures { HasResponded (view H.held H.open_faults H.read_faults H.write_faults shelf.old) (view H.held H.open_faults H.read_faults H.write_faults shelf.new) (names_of names.now) result }
 {
     let (book, share) = blank.open::<L>();
     let mut steps = Steps::new(book, share);
@@ -77,7 +92,10 @@ fn run<'a, L: Ledger, H: Shelf>(
     names: &RunWords<'a>,
     shelf: &mut H,
     steps: &mut Steps<L>,
-) -> Ending<'a> {
+) -> Ending<'a>
+    requires { Differ (names_of names.now) }
+    ensures { HasRun (view H.held H.open_faults H.read_faults H.write_faults shelf.old) (view H.held H.open_faults H.read_faults H.write_faults shelf.new) (names_of names.now) (outcome_of result) }
+{
     let mut source = match shelf.open_in(names.base) {
         Ok(source) => source,
         Err(fault) => return Ending::of_open(names.base, fault),
@@ -98,21 +116,21 @@ fn run_over<'a, L: Ledger, H: Shelf>(
     shelf: &mut H,
     steps: &mut Steps<L>,
 ) -> Ending<'a>
-    requires { is_base contents.now ≡ true }
+    requires base { is_base contents.now ≡ true }
+    requires differ { Differ (names_of names.now) }
+    ensures { HasRunOver (view H.held H.open_faults H.read_faults H.write_faults shelf.old) (view H.held H.open_faults H.read_faults H.write_faults shelf.new) (names_of names.now) contents.now (outcome_of result) }
 {
     let mut journal = match shelf.make_out(names.journal) {
         Ok(journal) => journal,
         Err(fault) => return Ending::of_open(names.journal, fault),
     };
     let ending = match run_desk(alloc, names, contents, shelf, steps) {
-        Ok(served) => {
-            let written = write_all(&mut journal, JOURNAL_HEAD);
-            Ending::of_served(names.input, names.output, served).and_written(names.journal, written)
-        }
+        Ok(served) => Ending::of_served(names.input, names.output, served),
         Err(ending) => ending,
     };
+    let written = write_all(&mut journal, JOURNAL_HEAD);
     shelf.give_out(names.journal, journal);
-    ending
+    ending.and_written(names.journal, written)
 }
 
 /// Opens the input, and serves its session.
@@ -124,20 +142,34 @@ fn run_desk<'a, L: Ledger, H: Shelf>(
     steps: &mut Steps<L>,
 ) -> Result<Served, Ending<'a>>
     requires { is_base contents.now ≡ true }
+    ensures { HasRunDesk (view H.held H.open_faults H.read_faults H.write_faults shelf.old) (view H.held H.open_faults H.read_faults H.write_faults shelf.new) (names_of names.now) contents.now result }
 {
     let mut source = match shelf.open_in(names.input) {
         Ok(source) => source,
         Err(fault) => return Err(Ending::of_open(names.input, fault)),
     };
-    let served = match shelf.make_out(names.output) {
-        Ok(sink) => {
-            let mut sink = sink;
-            let served = serve_first(alloc, contents, steps, &mut source, &mut sink);
-            shelf.give_out(names.output, sink);
-            Ok(served)
-        }
-        Err(fault) => Err(Ending::of_open(names.output, fault)),
-    };
+    let served = serve_desk(alloc, names, contents, shelf, steps, &mut source);
     shelf.give_in(names.input, source);
     served
+}
+
+/// Makes the output, and serves the session of an input.
+fn serve_desk<'a, L: Ledger, H: Shelf>(
+    alloc: Global,
+    names: &RunWords<'a>,
+    contents: &Contents,
+    shelf: &mut H,
+    steps: &mut Steps<L>,
+    source: &mut H::In,
+) -> Result<Served, Ending<'a>>
+    requires { is_base contents.now ≡ true }
+    ensures { HasServedDesk H.In.left H.In.faults H.In.label source.old source.new (view H.held H.open_faults H.read_faults H.write_faults shelf.old) (view H.held H.open_faults H.read_faults H.write_faults shelf.new) (names_of names.now) contents.now result }
+{
+    let mut sink = match shelf.make_out(names.output) {
+        Ok(sink) => sink,
+        Err(fault) => return Err(Ending::of_open(names.output, fault)),
+    };
+    let served = serve_first(alloc, contents, steps, source, &mut sink);
+    shelf.give_out(names.output, sink);
+    Ok(served)
 }

@@ -19,10 +19,11 @@ fn texts(alloc: Global, words: &[&str]) -> Result<Vec<String>, AllocError> {
     Ok(texts)
 }
 
-/// A shelf with a base and an input, on which the opening calls with these numbers fail.
+/// A shelf with a base and an input, on which the opening calls with these numbers fail, and these calls of parts by their names.
 fn shelf_with(
     alloc: Global,
     opens: &[u64],
+    parts: &[(&str, u64)],
     base: &[&str],
     input: &str,
 ) -> Result<MemoryShelf, AllocError> {
@@ -30,7 +31,11 @@ fn shelf_with(
     for number in opens {
         failing.push(*number)?;
     }
-    let mut shelf = MemoryShelf::new(alloc, failing, NamedCalls::new(alloc));
+    let mut named = NamedCalls::new(alloc);
+    for (name, call) in parts {
+        named.push(name, *call)?;
+    }
+    let mut shelf = MemoryShelf::new(alloc, failing, named);
     let mut rows = String::new(alloc);
     for part in base {
         rows.push_str(part)?;
@@ -51,76 +56,95 @@ struct Case {
     output: &'static str,
 }
 
+/// A run that ends well.
+const fn ended(base: &'static [&'static str], input: &'static str, output: &'static str) -> Case {
+    Case {
+        base,
+        input,
+        status: 0,
+        console: ENDED,
+        journal: "plan-journal 2\n",
+        output,
+    }
+}
+
+/// A run whose base is refused.
+const fn refused(base: &'static [&'static str], console: &'static str) -> Case {
+    Case {
+        base,
+        input: "PLAN Baseline A\n",
+        status: 3,
+        console,
+        journal: "",
+        output: "",
+    }
+}
+
+/// Whether a run comes to what it must.
+fn comes_to(alloc: Global, case: &Case) -> Result<bool, AllocError> {
+    let mut shelf = shelf_with(alloc, &[], &[], case.base, case.input)?;
+    let words = texts(alloc, &["run", "base", "journal", "in", "out"])?;
+    let status = response(alloc, words.as_slice(), &mut shelf);
+    Ok(
+        status == case.status
+            && shelf.held("-").unwrap_or(b"") == case.console.as_bytes()
+            && shelf.held("journal").unwrap_or(b"") == case.journal.as_bytes()
+            && shelf.held("out").unwrap_or(b"") == case.output.as_bytes(),
+    )
+}
+
 #[test]
-fn runs_come_to_their_replies(rt: HostRuntime) -> Result<(), Fail> {
-    let alloc = rt.alloc();
+fn a_part_is_planned(rt: HostRuntime) -> Result<(), Fail> {
     let cases = [
-        Case {
-            base: &[PART, "DEMAND,A,D1,2025-03-05,50\n"],
-            input: "PLAN Baseline A\n",
-            status: 0,
-            console: ENDED,
-            journal: "plan-journal 2\n",
-            output: "OK @0 2\n2025-03-03 0 0 0 30 20 0\n2025-03-05 50 0 20 0 0 0\n",
-        },
-        Case {
-            base: &[PART, "DEMAND,A,D1,2025-03-05,30\n"],
-            input: "PLAN Baseline A",
-            status: 0,
-            console: ENDED,
-            journal: "plan-journal 2\n",
-            output: "OK @0 1\n2025-03-05 30 0 0 0 0 0\n",
-        },
-        Case {
-            base: &[PART, "DEMAND,A,D1,2025-03-05,31\n"],
-            input: "\n PLAN\tBaseline  A \r\n",
-            status: 0,
-            console: ENDED,
-            journal: "plan-journal 2\n",
-            output: "OK @0 2\n2025-03-03 0 0 0 30 1 0\n2025-03-05 31 0 1 0 0 0\n",
-        },
-        Case {
-            base: &[PART, "DEMAND,A,D1,2025-02-01,50\n"],
-            input: "PLAN Baseline A\n",
-            status: 0,
-            console: ENDED,
-            journal: "plan-journal 2\n",
-            output: "OK @0 1\n2025-03-03 50 0 20 0 20 20\n",
-        },
-        Case {
-            base: &[PART],
-            input: "PLAN Baseline Q\nPLAN X A\nPLAN Baseline\nFOO\n",
-            status: 0,
-            console: ENDED,
-            journal: "plan-journal 2\n",
-            output: "NO @0 no-part Q\nNO @0 no-scenario X\nBAD word\nBAD word\n",
-        },
-        Case {
-            base: &[PART, "STOCK,A,31\n"],
-            input: "PLAN Baseline A\n",
-            status: 3,
-            console: "base twice 4\n",
-            journal: "",
-            output: "",
-        },
+        ended(
+            &[PART, "DEMAND,A,D1,2025-03-05,50\n"],
+            "PLAN Baseline A\n",
+            "OK @0 2\n2025-03-03 0 0 0 30 20 0\n2025-03-05 50 0 20 0 0 0\n",
+        ),
+        ended(
+            &[PART, "DEMAND,A,D1,2025-03-05,30\n"],
+            "PLAN Baseline A",
+            "OK @0 1\n2025-03-05 30 0 0 0 0 0\n",
+        ),
+        ended(
+            &[PART, "DEMAND,A,D1,2025-03-05,31\n"],
+            "\n PLAN\tBaseline  A \r\n",
+            "OK @0 2\n2025-03-03 0 0 0 30 1 0\n2025-03-05 31 0 1 0 0 0\n",
+        ),
+        ended(
+            &[PART, "DEMAND,A,D1,2025-02-01,50\n"],
+            "PLAN Baseline A\n",
+            "OK @0 1\n2025-03-03 50 0 20 0 20 20\n",
+        ),
     ];
     for case in &cases {
-        let mut shelf = shelf_with(alloc, &[], case.base, case.input)?;
-        let words = texts(alloc, &["run", "base", "journal", "in", "out"])?;
-        assert_eq!(rt; response(alloc, words.as_slice(), &mut shelf), case.status);
-        assert_eq!(rt; shelf.held("-").unwrap_or(b""), case.console.as_bytes());
-        assert_eq!(rt;
-            shelf.held("journal").unwrap_or(b""),
-            case.journal.as_bytes()
-        );
-        assert_eq!(rt; shelf.held("out").unwrap_or(b""), case.output.as_bytes());
+        assert!(rt; comes_to(rt.alloc(), case)?);
+    }
+    Ok(())
+}
+
+#[test]
+fn what_is_wrong_is_told(rt: HostRuntime) -> Result<(), Fail> {
+    let cases = [
+        ended(
+            &[PART],
+            "PLAN Baseline Q\nPLAN X A\nPLAN Baseline\nFOO\nPOINT\n",
+            "NO @0 no-part Q\nNO @0 no-scenario X\nBAD field 2 shape\nBAD word\nBAD word\n",
+        ),
+        refused(&[PART, "STOCK,A,31\n"], "base twice 4\n"),
+        refused(&[], "base no-plan\n"),
+        refused(&["STOCK,A,x\n"], "base row 1 field 2 shape\n"),
+        refused(&["BILL,A,B,1\n"], "base row 1 field 0 shape\n"),
+    ];
+    for case in &cases {
+        assert!(rt; comes_to(rt.alloc(), case)?);
     }
     Ok(())
 }
 
 /// Whether the words are refused, with the console's line and nothing else written.
 fn is_refused(alloc: Global, words: &[&str]) -> Result<bool, AllocError> {
-    let mut shelf = shelf_with(alloc, &[], &[PART], "PLAN Baseline A\n")?;
+    let mut shelf = shelf_with(alloc, &[], &[], &[PART], "PLAN Baseline A\n")?;
     let words = texts(alloc, words)?;
     let status = response(alloc, words.as_slice(), &mut shelf);
     Ok(
@@ -154,10 +178,29 @@ fn files_that_fail_are_named(rt: HostRuntime) -> Result<(), Fail> {
         (5, "open out\n"),
     ];
     for (call, console) in cases {
-        let mut shelf = shelf_with(alloc, &[call], &[PART], "PLAN Baseline A\n")?;
+        let mut shelf = shelf_with(alloc, &[call], &[], &[PART], "PLAN Baseline A\n")?;
         let words = texts(alloc, &["run", "base", "journal", "in", "out"])?;
         assert_eq!(rt; response(alloc, words.as_slice(), &mut shelf), 4);
         assert_eq!(rt; shelf.held("-").unwrap_or(b""), console.as_bytes());
+    }
+    Ok(())
+}
+
+#[test]
+fn devices_that_fail_are_named(rt: HostRuntime) -> Result<(), Fail> {
+    let alloc = rt.alloc();
+    let cases = [
+        ("base", 5, "read base\n", ""),
+        ("in", 5, "read in\n", "plan-journal 2\n"),
+        ("out", 6, "write out\n", "plan-journal 2\n"),
+        ("journal", 6, "write journal\n", ""),
+    ];
+    for (name, status, console, journal) in cases {
+        let mut shelf = shelf_with(alloc, &[], &[(name, 1)], &[PART], "PLAN Baseline Q\n")?;
+        let words = texts(alloc, &["run", "base", "journal", "in", "out"])?;
+        assert_eq!(rt; response(alloc, words.as_slice(), &mut shelf), status);
+        assert_eq!(rt; shelf.held("-").unwrap_or(b""), console.as_bytes());
+        assert_eq!(rt; shelf.held("journal").unwrap_or(b""), journal.as_bytes());
     }
     Ok(())
 }

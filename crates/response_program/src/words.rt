@@ -1,5 +1,7 @@
 //! The words of the command line.
-ghost use Rattle.std.specs.Prelude.{◌≡◌, is_some, map, string_bytes};
+ghost use Rattle.std.specs.Prelude.{◌≡◌, is_some, map, string_bytes, IfSome};
+ghost use Rattle.response_program.specs.Runs.{names_of};
+ghost use Rattle.response_program.specs.Responses.{names_in};
 ghost use Rattle.response_program.specs.Words as spec;
 
 /// The file names of a run.
@@ -15,7 +17,8 @@ pub struct RunWords<'a> {
 /// input, and the base differs from the input.
 #[tactic(auto, unfolding(crate::specs::Words::is_run))]
 pub fn read_words(words: &[String]) -> Option<RunWords<'_>>
-    ensures { is_some result ≡ spec.is_run (map string_bytes words.now) }
+    ensures found { is_some result ≡ spec.is_run (map string_bytes words.now) }
+    ensures names { IfSome result (λ names. names_of names ≡ names_in (map string_bytes words.now)) }
 {
     if words.len() != 5 {
         return None;
@@ -38,7 +41,8 @@ fn names_of<'a>(
     input: &'a str,
     output: &'a str,
 ) -> Option<RunWords<'a>>
-    ensures { is_some result ≡ spec.is_run_of command.now base.now journal.now input.now output.now }
+    ensures found { is_some result ≡ spec.is_run_of command.now base.now journal.now input.now output.now }
+    ensures names { IfSome result (λ names. names_of names ≡ record { base = base.now; journal = journal.now; input = input.now; output = output.now }) }
 {
     if command == "run"
         && (is_file(base) && is_file(journal) && is_file(input) && is_file(output))

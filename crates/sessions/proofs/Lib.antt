@@ -1,2 +1,10 @@
 pub mod Lines
 pub mod Inputs
+pub mod Sums
+pub mod WorkingDays
+pub mod Alone
+pub mod AtStart
+pub mod PlanLines
+pub mod Simple
+pub mod LineByLine
+pub mod Reading

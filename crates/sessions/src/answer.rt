@@ -1,11 +1,20 @@
 //! Answers to commands.
-ghost use Rattle.std.specs.Prelude.{◌≡◌, ◌≤◌, true};
+ghost use Rattle.std.specs.Prelude.{◌≡◌, ◌+◌, ◌<◌, ◌≤◌, [], true, slice_index, IfOk};
 ghost use Rattle.plan_schema.specs.Base.{is_base};
 ghost use Rattle.arrayvec.specs.ArrayVec.{array_vec_len};
+ghost use Rattle.plan_schema.specs.Day.{day_text};
+ghost use Rattle.planning_rules.specs.Days.{start_of, days_of};
+ghost use Rattle.scenario_rules.specs.World.{root};
+ghost use Rattle.netting.specs.Inputs.{told};
+ghost use Rattle.command_words.specs.declared.command.Command.TheVariants as commands;
+ghost use Rattle.session_rules.specs.Requests.{guest};
+ghost use Rattle.session_rules.specs.Answers as spec;
+ghost use Rattle.session_rules.specs.Sessions.{IsCommandReply};
+ghost use Rattle.sessions.specs.Plans.{has_no_bills};
 
 use crate::planning::{PlanFault, plan_part};
 use crate::records::horizon_in;
-use command_words::{Bad, Command, Lines, Reply};
+use command_words::{Lines, Reply};
 use plan_schema::{Contents, Day, Name, Outcome, Qty, Quantities, Refusal, Steps};
 use row_text::{RowText, push_number};
 use std::alloc::{AllocError, Global};
@@ -14,27 +23,25 @@ use std::sync::ledger::Ledger;
 /// The scenario that is there from the start.
 const ROOT: &[u8] = b"Baseline";
 
-/// What a command is answered where nothing was changed. Only plans are served.
-pub fn answer<L: Ledger>(
+/// What the question for a part's plan is answered where nothing was changed.
+pub fn plan_answer<L: Ledger>(
     alloc: Global,
     contents: &Contents,
     steps: &mut Steps<L>,
-    command: &Command,
+    scenario: &Name,
+    part: &Name,
 ) -> Reply
     requires { is_base contents.now ≡ true }
+    ensures { has_no_bills contents.now ≡ true → IsCommandReply contents.now [] 1 0 0 guest (commands.Plan scenario.now part.now) result }
 {
-    match command {
-        Command::Plan { scenario, part } => {
-            if scenario.as_bytes() != ROOT {
-                return Reply::No(0, Refusal::NoScenario(*scenario));
-            }
-            plan_reply(alloc, contents, steps, part)
-        }
-        _ => Reply::Bad(Bad::Word),
+    if scenario.as_bytes() == ROOT {
+        plan_reply(alloc, contents, steps, part)
+    } else {
+        Reply::No(0, Refusal::NoScenario(*scenario))
     }
 }
 
-/// The lines of a part's plan, or why it has none.
+/// The lines of a part's plan at the start, or why it has none.
 fn plan_reply<L: Ledger>(
     alloc: Global,
     contents: &Contents,
@@ -42,6 +49,7 @@ fn plan_reply<L: Ledger>(
     part: &Name,
 ) -> Reply
     requires { is_base contents.now ≡ true }
+    ensures { has_no_bills contents.now ≡ true → IsCommandReply contents.now [] 1 0 0 guest (commands.Plan root part.now) result }
 {
     match plan_part(alloc, contents, part, steps) {
         Ok(outcome) => match plan_lines(alloc, contents, &outcome) {
@@ -56,66 +64,60 @@ fn plan_reply<L: Ledger>(
 /// A line for each day on which something is asked for, received, planned or released.
 fn plan_lines(alloc: Global, contents: &Contents, outcome: &Outcome) -> Result<Lines, AllocError>
     requires { is_base contents.now ≡ true }
+    ensures { IfOk result (λ lines. lines ≡ spec.plan_lines (start_of contents.now) (days_of contents.now) (told outcome.now)) }
 {
     let mut lines = Lines::new(alloc);
-    let Some((start, days)) = horizon_in(contents) else {
-        return Ok(lines);
-    };
+    let (start, days) = horizon_in(contents);
     for day in 0..days {
-        let figures = figures_on(outcome, day);
-        if figures.is_something() {
-            lines.push(figures.line(&start, day).as_slice())?;
+        if is_eventful(outcome, day) {
+            lines.push(plan_line(&start, outcome, day).as_slice())?;
         }
     }
     Ok(lines)
 }
 
-/// A day of a part's record.
-#[derive(Clone, Copy)]
-struct Figures {
-    gross: Qty,
-    sched: Qty,
-    planned: Qty,
-    balance: Qty,
-    release: Qty,
-    late: Qty,
+/// Whether something is asked for, received, planned or released on a day.
+fn is_eventful(outcome: &Outcome, day: u16) -> bool
+    ensures { result ≡ spec.is_eventful (told outcome.now) day }
+{
+    at(&outcome.gross, day) > 0
+        || at(&outcome.sched, day) > 0
+        || at(&outcome.planned, day) > 0
+        || at(&outcome.release, day) > 0
 }
 
-impl Figures {
-    /// Whether anything is asked for, received, planned or released.
-    fn is_something(&self) -> bool {
-        self.gross > 0 || self.sched > 0 || self.planned > 0 || self.release > 0
-    }
-
-    /// The line for the day.
-    fn line(&self, start: &Day, day: u16) -> RowText {
-        let mut text = RowText::new();
-        if let Some(date) = start.later(day) {
-            let _ = text.try_extend_from_slice(&date.text());
-        }
-        push_number(&mut text, self.gross);
-        push_number(&mut text, self.sched);
-        push_number(&mut text, self.planned);
-        push_number(&mut text, self.balance);
-        push_number(&mut text, self.release);
-        push_number(&mut text, self.late);
-        text
-    }
+/// The line of a day. What is late is told on the first.
+fn plan_line(start: &Day, outcome: &Outcome, day: u16) -> RowText
+    requires { start.now + day < 36525 }
+    ensures { result.items ≡ spec.plan_line start.now (told outcome.now) day }
+{
+    let mut text = RowText::new();
+    push_date(&mut text, start, day);
+    push_number(&mut text, at(&outcome.gross, day));
+    push_number(&mut text, at(&outcome.sched, day));
+    push_number(&mut text, at(&outcome.planned, day));
+    push_number(&mut text, at(&outcome.balance, day));
+    push_number(&mut text, at(&outcome.release, day));
+    push_number(&mut text, if day == 0 { outcome.late } else { 0 });
+    text
 }
 
-/// The figures of a day; what is late is told on the first.
-fn figures_on(outcome: &Outcome, day: u16) -> Figures {
-    Figures {
-        gross: at(&outcome.gross, day),
-        sched: at(&outcome.sched, day),
-        planned: at(&outcome.planned, day),
-        balance: at(&outcome.balance, day),
-        release: at(&outcome.release, day),
-        late: if day == 0 { outcome.late } else { 0 },
+/// Begins a line with the date of a day of the horizon.
+#[tactic(auto, unfolding(plan_schema::specs::Day::later))]
+fn push_date(text: &mut RowText, start: &Day, day: u16)
+    requires empty { text.old.items ≡ [] }
+    requires date { start.now + day < 36525 }
+    ensures items { text.new.items ≡ day_text (start.now + day) }
+    ensures len { array_vec_len text.new ≤ 10 }
+{
+    if let Some(date) = start.later(day) {
+        let _ = text.try_extend_from_slice(&date.text());
     }
 }
 
 /// The number of a day.
-fn at(numbers: &Quantities, day: u16) -> Qty {
+fn at(numbers: &Quantities, day: u16) -> Qty
+    ensures { result ≡ slice_index numbers.now day }
+{
     numbers.get(day as usize).copied().unwrap_or(0)
 }

@@ -2,6 +2,7 @@
 #![tactic(auto)]
 
 mod answer;
+mod calendars;
 mod orders;
 mod planning;
 mod records;
@@ -9,3 +10,6 @@ mod serve;
 
 pub use byte_lines::Served;
 pub use serve::serve_first;
+
+#[cfg(test)]
+mod tests;

@@ -1,16 +1,18 @@
 //! The plan of one part.
-ghost use Rattle.std.specs.Prelude.{◌≡◌, ◌≤◌, true, length, IfOk, IfSome};
+ghost use Rattle.std.specs.Prelude.{◌≡◌, ◌≤◌, true, Some};
 ghost use Rattle.plan_schema.specs.Base.{is_base};
+ghost use Rattle.plan_schema.specs.Contents.{record_at};
 ghost use Rattle.plan_schema.specs.declared.key.Key.TheVariants as keys;
 ghost use Rattle.plan_schema.specs.Sound.{is_sound_row};
+ghost use Rattle.planning_rules.specs.Days.{start_of, days_of};
+ghost use Rattle.sessions.specs.declared.planning.PlanFault.TheVariants as faults;
+ghost use Rattle.sessions.specs.Plans.{has_no_bills, IsPlan};
 
+use crate::calendars::calendar_in;
 use crate::orders::{Kind, totals};
-use crate::records::{horizon_in, record_in};
+use crate::records::{horizon_in, record_in, stock_in};
 use netting::{Input, net};
-use plan_calendar::{Calendar, Holidays};
-use plan_schema::{
-    Contents, Day, Key, Name, NetFault, Outcome, Qty, Record, Refusal, Series, Steps,
-};
+use plan_schema::{Contents, Day, Key, Name, NetFault, Outcome, Record, Refusal, Steps};
 use std::alloc::{AllocError, Global};
 use std::sync::ledger::Ledger;
 
@@ -22,12 +24,14 @@ pub enum PlanFault {
 }
 
 impl From<AllocError> for PlanFault {
+    ghost from_gives = { λ _ fault. fault ≡ faults.Memory };
+
     fn from(_: AllocError) -> PlanFault {
         PlanFault::Memory
     }
 }
 
-/// The plan of a part of a base without bills: its demands are its gross requirements.
+/// The plan of a part of records without bills: its demands are its gross requirements.
 pub fn plan_part<L: Ledger>(
     alloc: Global,
     contents: &Contents,
@@ -35,13 +39,12 @@ pub fn plan_part<L: Ledger>(
     steps: &mut Steps<L>,
 ) -> Result<Outcome, PlanFault>
     requires { is_base contents.now ≡ true }
+    ensures { has_no_bills contents.now ≡ true → IsPlan contents.now part.now result }
 {
     let Some(row) = record_in(contents, &Key::Part(*part)) else {
         return Err(PlanFault::No(Refusal::NoPart(*part)));
     };
-    let Some((start, days)) = horizon_in(contents) else {
-        return Err(PlanFault::No(Refusal::NoPart(*part)));
-    };
+    let (start, days) = horizon_in(contents);
     plan_over(alloc, contents, part, row, &start, days, steps)
 }
 
@@ -56,9 +59,13 @@ fn plan_over<L: Ledger>(
     steps: &mut Steps<L>,
 ) -> Result<Outcome, PlanFault>
     requires base { is_base contents.now ≡ true }
+    requires row { record_at contents.now (keys.Part part.now) ≡ Some row.now }
     requires sound { is_sound_row (keys.Part part.now) row.now ≡ true }
+    requires start { start.now ≡ start_of contents.now }
+    requires days { days ≡ days_of contents.now }
     requires some_days { 1 ≤ days }
     requires most_days { days ≤ 400 }
+    ensures { has_no_bills contents.now ≡ true → IsPlan contents.now part.now result }
 {
     let Record::Part {
         lead,
@@ -67,9 +74,9 @@ fn plan_over<L: Ledger>(
         calendar,
     } = row
     else {
-        return Err(PlanFault::No(Refusal::NoPart(*part)));
+        unreachable!()
     };
-    let Some(calendar) = calendar_in(alloc, contents, start, days, calendar.as_ref())? else {
+    let Some(calendar) = calendar_in(alloc, contents, start, days, calendar)? else {
         return Err(PlanFault::No(Refusal::MissingCalendar(*part)));
     };
     let input = Input {
@@ -86,50 +93,4 @@ fn plan_over<L: Ledger>(
         Err(NetFault::TooLarge) => Err(PlanFault::No(Refusal::TooLarge(*part))),
         Err(NetFault::Memory) => Err(PlanFault::Memory),
     }
-}
-
-/// What is on hand; 0 without a record.
-fn stock_in(contents: &Contents, part: &Name) -> Qty
-    requires { is_base contents.now ≡ true }
-    ensures { result ≤ 1000000000 }
-{
-    match record_in(contents, &Key::Stock(*part)) {
-        Some(Record::Stock { qty }) => *qty,
-        _ => 0,
-    }
-}
-
-/// The calendar with this name over the horizon, if it is there; every day works without a name.
-fn calendar_in(
-    alloc: Global,
-    contents: &Contents,
-    start: &Day,
-    days: u16,
-    name: Option<&Name>,
-) -> Result<Option<Calendar>, AllocError>
-    requires base { is_base contents.now ≡ true }
-    requires days { days ≤ 400 }
-    ensures { IfOk result (λ found. IfSome found (λ calendar. length calendar ≡ days)) }
-{
-    let Some(name) = name else {
-        return Ok(Some(Calendar::every(days)));
-    };
-    let Some(Record::Cal { week }) = record_in(contents, &Key::Cal(*name)) else {
-        return Ok(None);
-    };
-    let holidays = holidays_in(alloc, contents, name)?;
-    Ok(Some(Calendar::of(start, days, week, &holidays)))
-}
-
-/// The holidays of a calendar.
-fn holidays_in(alloc: Global, contents: &Contents, name: &Name) -> Result<Holidays, AllocError> {
-    let mut holidays = Series::new(alloc);
-    for (key, _) in contents.iter() {
-        if let Key::Holiday(of, day) = key
-            && of == name
-        {
-            holidays.push(*day)?;
-        }
-    }
-    Ok(holidays)
 }

@@ -1,16 +1,22 @@
 //! Sessions.
-ghost use Rattle.std.specs.Prelude.{◌≡◌, ◌≢◌, ◌≤◌, ◌<◌, true, false, length, Err, IfSome, OnOk};
+ghost use Rattle.std.specs.Prelude.{◌≡◌, ◌≢◌, ◌≤◌, ◌++◌, ◌∷◌, [], ℕ, List, Option, Result, nat_le, true, false, length, Some, Err, IfOk, IfSome, OnOk};
 ghost use Rattle.byte_lines.specs.Cuts.{shown};
+ghost use Rattle.byte_lines.specs.Lines.{line_of, lines_after, no_bytes};
 ghost use Rattle.plan_schema.specs.Base.{is_base};
 ghost use Rattle.plan_schema.specs.Outside.{Rose};
 ghost use Rattle.byte_lines.specs.declared.rounds.Served.TheVariants as ends;
 ghost use Rattle.plan_schema.specs.declared.outside.SinkFault.TheVariants as sinks;
+ghost use Rattle.session_rules.specs.Requests as requests;
+ghost use Rattle.session_rules.specs.Requests.{guest};
+ghost use Rattle.session_rules.specs.Sessions.{IsCommandReply};
 ghost use Rattle.sessions.specs.declared.serve.Stop.TheVariants as stops;
 ghost use Rattle.sessions.specs.Ends.{Ending, LineEnding};
+ghost use Rattle.sessions.specs.Plans.{has_no_bills};
+ghost use Rattle.sessions.specs.Serving.{byte_limit, is_plan, IsLineReply, Serves, ServedMore, SoFar};
 
-use crate::answer::answer;
+use crate::answer::plan_answer;
 use byte_lines::{Cut, Cutter, Served, Sink, SinkFault, Source};
-use command_words::{Bad, Reply, is_blank, read_line, write_reply};
+use command_words::{Bad, Command, Reply, is_blank, read_line, write_reply};
 use plan_schema::{Contents, Steps};
 use std::alloc::Global;
 use std::sync::ledger::Ledger;
@@ -20,6 +26,9 @@ const BYTE_LIMIT: u64 = 1_073_741_824;
 
 /// The most lines of a session's input.
 const LINE_LIMIT: u64 = 1_000_000;
+
+/// The command word that is served.
+const SERVED: &[u8] = b"PLAN";
 
 /// How much is read at once.
 const PIECE: usize = 4096;
@@ -36,6 +45,10 @@ impl Stop {
     fn served(self) -> Served
         ensures failed { result ≡ ends.WriteFault → self ≡ stops.Sink sinks.Failed }
         ensures read { result ≢ ends.ReadFault }
+        ensures limit { result ≡ ends.Limit → self ≡ stops.Limit }
+        ensures stopped { (count : ℕ) → result ≢ ends.Ended count }
+        ensures worn { result ≢ ends.Worn }
+        ensures book { result ≢ ends.BookFault }
     {
         match self {
             Stop::Sink(SinkFault::Failed) => Served::WriteFault,
@@ -53,8 +66,8 @@ struct Progress {
     requests: u64,
 }
 
-/// Serves one session over records that nobody changes: reads its requests to the end and writes a reply to each. A request that
-/// isn't `PLAN` with two names is answered `BAD word`.
+/// Serves one session over records that nobody changes: reads its requests to the end and writes a reply to each. Today the one
+/// command is `PLAN`, and records have no bills.
 pub fn serve_first<L: Ledger, S: Source, K: Sink>(
     alloc: Global,
     contents: &Contents,
@@ -63,7 +76,10 @@ pub fn serve_first<L: Ledger, S: Source, K: Sink>(
     sink: &mut K,
 ) -> Served
     requires { is_base contents.now ≡ true }
-    ensures { Ending S.faults S.label K.faults K.label source.old source.new sink.old sink.new result }
+    ensures cause { Ending S.faults S.label K.faults K.label source.old source.new sink.old sink.new result }
+    ensures worn { result ≢ ends.Worn }
+    ensures book { result ≢ ends.BookFault }
+    ensures served { has_no_bills contents.now ≡ true → (input : List ℕ) → S.left source.old ≡ Some input → Serves contents.now input (K.taken sink.old) (K.taken sink.new) result }
 {
     let mut buffer = [0u8; PIECE];
     let mut progress = Progress {
@@ -109,6 +125,9 @@ fn serve_piece<L: Ledger, K: Sink>(
     requires begun { progress.old.cutter.is_complete ≡ false }
     ensures begun { OnOk result (progress.new.cutter.is_complete ≡ false) }
     ensures cause { LineEnding K.faults K.label sink.old sink.new result }
+    ensures served { has_no_bills contents.now ≡ true → (input rest : List ℕ) → (before : Option (List ℕ))
+        → SoFar contents.now input (lines_after progress.old.cutter.kept (piece.now ++ rest)) progress.old.lines progress.old.requests before (K.taken sink.old)
+        → ServedMore contents.now input (lines_after progress.new.cutter.kept rest) progress.new.lines progress.new.requests before (K.taken sink.new) result }
 {
     let mut done = 0;
     while done < piece.len() {
@@ -135,7 +154,12 @@ fn serve_last<L: Ledger, K: Sink>(
     ensures later { K.faults sink.old ≤ K.faults sink.new }
     ensures failed { result ≡ ends.WriteFault → Rose (K.faults sink.old) (K.faults sink.new) }
     ensures read { result ≢ ends.ReadFault }
+    ensures worn { result ≢ ends.Worn }
+    ensures book { result ≢ ends.BookFault }
     ensures same { K.label sink.new ≡ K.label sink.old }
+    ensures served { has_no_bills contents.now ≡ true → (input : List ℕ) → (before : Option (List ℕ)) → length input ≤ byte_limit
+        → SoFar contents.now input (lines_after progress.old.cutter.kept []) progress.old.lines progress.old.requests before (K.taken sink.old)
+        → Serves contents.now input before (K.taken sink.new) result }
 {
     if progress.cutter.is_empty() {
         return Served::Ended(progress.requests);
@@ -156,8 +180,11 @@ fn serve_line<L: Ledger, K: Sink>(
     sink: &mut K,
 ) -> Result<(), Stop>
     requires { is_base contents.now ≡ true }
-    ensures begun { OnOk result (progress.new.cutter.is_complete ≡ false) }
+    ensures begun { OnOk result (progress.new.cutter ≡ no_bytes) }
     ensures cause { LineEnding K.faults K.label sink.old sink.new result }
+    ensures served { has_no_bills contents.now ≡ true → (input : List ℕ) → (left : List (Option (List ℕ))) → (before : Option (List ℕ))
+        → SoFar contents.now input (line_of progress.old.cutter.kept ∷ left) progress.old.lines progress.old.requests before (K.taken sink.old)
+        → ServedMore contents.now input left progress.new.lines progress.new.requests before (K.taken sink.new) result }
 {
     if progress.lines >= LINE_LIMIT {
         return Err(Stop::Limit);
@@ -184,10 +211,11 @@ fn reply_to<L: Ledger>(
 ) -> Option<Reply>
     requires base { is_base contents.now ≡ true }
     requires short { IfSome (shown cut) (λ line. length line ≤ 1024) }
+    ensures { has_no_bills contents.now ≡ true → IsLineReply contents.now (shown cut.entry) result }
 {
     match cut {
         Cut::Line(line) => reply_to_text(alloc, contents, steps, line),
-        Cut::TooLong => Some(Reply::Bad(Bad::Word)),
+        Cut::TooLong => Some(Reply::Bad(Bad::Long)),
     }
 }
 
@@ -200,12 +228,56 @@ fn reply_to_text<L: Ledger>(
 ) -> Option<Reply>
     requires base { is_base contents.now ≡ true }
     requires short { length line.now ≤ 1024 }
+    ensures { has_no_bills contents.now ≡ true → IsLineReply contents.now (Some line.now) result }
 {
     if is_blank(line) {
         return None;
     }
-    match read_line(line) {
-        Ok(command) => Some(answer(alloc, contents, steps, &command)),
-        Err(_) => Some(Reply::Bad(Bad::Word)),
+    match read_served(line) {
+        Ok(command) => Some(reply_to_command(alloc, contents, steps, &command)),
+        Err(bad) => Some(Reply::Bad(bad)),
     }
+}
+
+/// The reply to a command that is served.
+fn reply_to_command<L: Ledger>(
+    alloc: Global,
+    contents: &Contents,
+    steps: &mut Steps<L>,
+    command: &Command<'_>,
+) -> Reply
+    requires base { is_base contents.now ≡ true }
+    requires plan { is_plan command.now ≡ true }
+    ensures { has_no_bills contents.now ≡ true → IsCommandReply contents.now [] 1 0 0 guest command.now result }
+{
+    match command {
+        Command::Plan { scenario, part } => plan_answer(alloc, contents, steps, scenario, part),
+        _ => unreachable!(),
+    }
+}
+
+/// What a line is read as, where a command that isn't served counts as none.
+#[tactic(auto, unfolding(session_rules::specs::Requests::reading))]
+fn read_served<'a>(line: &'a [u8]) -> Result<Command<'a>, Bad>
+    requires { length line.now ≤ 1024 }
+    ensures value { (number : ℕ) → result ≡ requests.reading (number, Some line.now) }
+    ensures plan { IfOk result (λ command. is_plan command ≡ true) }
+{
+    if is_served(line) {
+        read_line(line)
+    } else {
+        Err(Bad::Word)
+    }
+}
+
+/// Whether the program serves the command that a line begins with.
+fn is_served(line: &[u8]) -> bool
+    ensures { result ≡ requests.is_served line.now }
+{
+    for word in line.split(|byte| *byte == b' ' || *byte == b'\t') {
+        if !word.is_empty() {
+            return word == SERVED;
+        }
+    }
+    false
 }

@@ -1,0 +1,22 @@
+-- The lines of the console.
+use Rattle.std.proofs.Common.{◌≡◌, ℕ, List, [], ◌∷◌, ◌++◌, refl, sym, ap, ◌∙◌, append-nil}
+use Rattle.std.specs.Prelude.{codes}
+use Rattle.std.specs.Fmt.{digits}
+use Rattle.response_program.specs.Outcomes.{Done, TooLong, NotOpened, NotRead, NotWritten, console_line}
+
+pub done_line : codes "entries 0 netted 0 reused 0 dropped 0\n" ≡ console_line Done
+unfolding digits
+done_line = refl
+
+pub limit_line : codes "limit 1\n" ≡ console_line TooLong
+unfolding digits
+limit_line = refl
+
+pub open_line : (name : List ℕ) → codes "open " ++ (name ++ 10 ∷ []) ≡ console_line (NotOpened name)
+open_line name = ap (λ t. codes "open " ++ (t ++ 10 ∷ [])) (sym (append-nil name))
+
+pub read_line : (name : List ℕ) → codes "read " ++ (name ++ 10 ∷ []) ≡ console_line (NotRead name)
+read_line name = ap (λ t. codes "read " ++ (t ++ 10 ∷ [])) (sym (append-nil name))
+
+pub write_line : (name : List ℕ) → codes "write " ++ (name ++ 10 ∷ []) ≡ console_line (NotWritten name)
+write_line name = ap (λ t. codes "write " ++ (t ++ 10 ∷ [])) (sym (append-nil name))

@@ -1,0 +1,54 @@
+use Rattle.std.proofs.Common.{◌≡◌, ◌≢◌, ◌∙◌, [], Ok, Err, Some, sym, ap, subst}
+use Rattle.std.specs.Prelude.{IsSome, OnOk}
+use Rattle.plan_schema.specs.Outside.{extended}
+use Rattle.plan_schema.specs.declared.outside.SinkFault.TheVariants as sinks
+use Rattle.plan_schema.proofs.Writes.{rose_after, rose_later}
+use Rattle.response_program.specs.Views.{view}
+use Rattle.response_program.specs.Outcomes.{outcome_of, and_written, status_of, console_line}
+use Rattle.response_program.specs.Runs.{names_of, console}
+use Rattle.response_program.proofs.Chains.{opened, gave_out, both_fell, cause_later, cause_after, counted_rose}
+use Rattle.response_program.proofs.Overs.{written_done, written_long, written_refused, written_cause, written_told, written_cut}
+use Rattle.response_program.proofs.Headline.{still_done, still_short, held_tells}
+use Rattle.response_program.proofs.run.counted.Goals as goal
+
+pub returns : goal.returns
+returns g c =
+    let old = view g.H.Shelf.held g.H.Shelf.open_faults g.H.Shelf.read_faults g.H.Shelf.write_faults c.args.shelf.now in
+    let mid = view g.H.Shelf.held g.H.Shelf.open_faults g.H.Shelf.read_faults g.H.Shelf.write_faults c.make_out.new.self in
+    let late = view g.H.Shelf.held g.H.Shelf.open_faults g.H.Shelf.read_faults g.H.Shelf.write_faults c.run-ending.new.shelf in
+    let new = view g.H.Shelf.held g.H.Shelf.open_faults g.H.Shelf.read_faults g.H.Shelf.write_faults c.give_out.new.self in
+    let names = names_of c.args.names.now in
+    let outcome = outcome_of c.run-ending.result in
+    let written = c.tell-told.result in
+    let final = and_written outcome console written in
+    let making = opened old mid console c.make_out.result c.make_out.ensures.cause c.make_out.ensures.reads c.make_out.ensures.writes in
+    let giving = gave_out late new console (g.H.Out.Sink.faults c.tell-told.new.console) c.give_out.ensures.count c.give_out.ensures.opens c.give_out.ensures.reads in
+    let before = both_fell old mid late making c.run-ending.ensures.none_fell in
+    let failed = λ (is : written ≡ Err sinks.Failed). rose_after (old.writes console) (late.writes console) (new.writes console) (before.writes console)
+    (counted_rose console late.writes new.writes (g.H.Out.Sink.faults c.in-Ok.console) (g.H.Out.Sink.faults c.tell-told.new.console) c.in-Ok.ensures.fresh (c.tell-told.ensures.cause.failed is) c.give_out.ensures.count) in
+    let apart = c.requires.differ in
+    record {
+      outcome = final;
+      status_is = c.status-2.ensures.value ∙ ap status_of c.and_written.ensures;
+      none_fell = both_fell old late new before giving;
+      cause = written_cause old new outcome console written (cause_later old late new outcome giving (cause_after old mid late outcome making c.run-ending.ensures.cause)) failed;
+      others = λ name journal output other. c.give_out.ensures.others name other ∙ c.run-ending.ensures.others name journal output ∙ c.make_out.ensures.others name other;
+      refused = λ fault is base base_is. c.run-ending.ensures.refused fault (written_refused outcome console written fault is) base (c.make_out.ensures.others names.base apart.base_console ∙ base_is);
+      kept = λ fault is name other. c.give_out.ensures.others name other ∙ c.run-ending.ensures.kept fault (written_refused outcome console written fault is) name ∙ c.make_out.ensures.others name other;
+      done = λ is tells base input base_is input_is.
+          still_done mid old late new names base input (c.give_out.ensures.others names.journal apart.journal_console) (c.give_out.ensures.others names.output apart.output_console)
+          (c.run-ending.ensures.done (written_done outcome console written is).0 (held_tells old mid tells c.make_out.ensures.here c.make_out.ensures.others) base input
+          (c.make_out.ensures.others names.base apart.base_console ∙ base_is) (c.make_out.ensures.others names.input apart.input_console ∙ input_is));
+      limit = λ is tells base input base_is input_is.
+          c.run-ending.ensures.limit (written_long outcome console written is) (held_tells old mid tells c.make_out.ensures.here c.make_out.ensures.others) base input
+          (c.make_out.ensures.others names.base apart.base_console ∙ base_is) (c.make_out.ensures.others names.input apart.input_console ∙ input_is);
+      cut = λ cut tells base input base_is input_is never.
+          still_short mid old late new names base input (c.give_out.ensures.others names.journal apart.journal_console) (c.give_out.ensures.others names.output apart.output_console)
+          (c.run-ending.ensures.cut (written_cut names outcome console written (λ same. apart.output_console (sym same)) cut) (held_tells old mid tells c.make_out.ensures.here c.make_out.ensures.others) base input
+          (c.make_out.ensures.others names.base apart.base_console ∙ base_is) (c.make_out.ensures.others names.input apart.input_console ∙ input_is)
+          (λ rose. never (rose_later _ _ _ (rose_after _ _ _ (making.writes names.journal) rose) (giving.writes names.journal))));
+      told = λ never tells opens writes.
+          let both = written_told outcome console written never (λ is. writes (failed is)) in
+          c.give_out.ensures.here ∙ subst (λ r. OnOk r (g.H.Out.Sink.taken c.tell-told.new.console ≡ extended (g.H.Out.Sink.taken c.in-Ok.console) (console_line outcome))) both.0 c.tell-told.ensures.ok
+          ∙ ap (λ taken. extended taken (console_line outcome)) (c.in-Ok.ensures.empty (tells console)) ∙ ap (λ o. Some (console_line o)) (sym both.1);
+    }

@@ -1,0 +1,9 @@
+use Rattle.std.proofs.Common.{◌≡◌, ◌∙◌, ap, sym, subst, true, Some}
+use Rattle.std.specs.Prelude.{map, string_bytes, is_some}
+use Rattle.response_program.specs.Runs.{Differ, names_of}
+use Rattle.response_program.proofs.NamesApart.{differ_in}
+use Rattle.response_program.proofs.run.response.Goals as goal
+
+pub counted-requires-clause-differ : goal.counted-requires-clause-differ
+counted-requires-clause-differ g c =
+    subst Differ (sym c.in-Some.ensures.names) (differ_in (map string_bytes c.args.words.now) (sym c.read_words.ensures.found ∙ ap is_some c.in-Some.is))

@@ -1,0 +1,102 @@
+-- How a run comes out: its status, the console's line, and the cause of each fault.
+use Rattle.std.specs.Prelude.{◌≡◌, ◌≢◌, ℕ, List, [], ◌∷◌, ◌++◌, Result, Ok, Err, codes, decimal}
+use Rattle.plan_schema.specs.Outside.{Rose}
+use Rattle.plan_schema.specs.declared.fault.FieldFault.{FieldFault}
+use Rattle.plan_schema.specs.declared.outside.ShelfFault.{ShelfFault}
+use Rattle.plan_schema.specs.declared.outside.ShelfFault.TheVariants as shelves
+use Rattle.plan_schema.specs.declared.outside.SinkFault.{SinkFault}
+use Rattle.plan_schema.specs.declared.outside.SinkFault.TheVariants as sinks
+use Rattle.byte_lines.specs.declared.rounds.Served.{Served}
+use Rattle.byte_lines.specs.declared.rounds.Served.TheVariants as ends
+use Rattle.row_text.specs.Spelling.{words_text}
+use Rattle.command_words.specs.Replies.{ended, room_word, rule_word}
+use Rattle.plan_import.specs.declared.ImportFault.{ImportFault}
+use Rattle.plan_import.specs.declared.ImportFault.TheVariants as imports
+use Rattle.response_program.specs.declared.ending.Ending.{Ending}
+use Rattle.response_program.specs.declared.ending.Ending.TheVariants as endings
+use Rattle.response_program.specs.Views.{View}
+
+-- everything ended; there was no memory; the base is refused; a file can't be opened, read or written; the input is too long
+pub data Outcome : Type 0 where
+  Done : Outcome
+  NoMemory : Outcome
+  Refused : ImportFault → Outcome
+  NotOpened : List ℕ → Outcome
+  NotRead : List ℕ → Outcome
+  NotWritten : List ℕ → Outcome
+  TooLong : Outcome
+
+abbrev pub outcome_of : Ending → Outcome
+outcome_of endings.Done = Done
+outcome_of endings.Memory = NoMemory
+outcome_of (endings.Base fault) = Refused fault
+outcome_of (endings.Open name) = NotOpened name.now
+outcome_of (endings.Read name) = NotRead name.now
+outcome_of (endings.Write name) = NotWritten name.now
+outcome_of endings.Limit = TooLong
+
+-- the status of the program
+abbrev pub status_of : Outcome → ℕ
+status_of Done = 0
+status_of NoMemory = 1
+status_of (Refused fault) = 3
+status_of (NotOpened name) = 4
+status_of (NotRead name) = 5
+status_of (NotWritten name) = 6
+status_of TooLong = 7
+
+-- why a base is refused
+abbrev pub base_words : ImportFault → List (List ℕ)
+base_words (imports.Row number fault) = codes "row" ∷ decimal number ∷ codes "field" ∷ decimal fault.field ∷ rule_word fault.rule ∷ []
+base_words (imports.Twice number) = codes "twice" ∷ decimal number ∷ []
+base_words (imports.Full room) = codes "full" ∷ room_word room ∷ []
+base_words fault = codes "no-plan" ∷ []
+
+-- the console's line
+abbrev pub line_words : Outcome → List (List ℕ)
+line_words Done = codes "entries" ∷ decimal 0 ∷ codes "netted" ∷ decimal 0 ∷ codes "reused" ∷ decimal 0 ∷ codes "dropped" ∷ decimal 0 ∷ []
+line_words NoMemory = codes "memory" ∷ []
+line_words (Refused fault) = codes "base" ∷ base_words fault
+line_words (NotOpened name) = codes "open" ∷ name ∷ []
+line_words (NotRead name) = codes "read" ∷ name ∷ []
+line_words (NotWritten name) = codes "write" ∷ name ∷ []
+line_words TooLong = codes "limit" ∷ decimal 1 ∷ []
+
+abbrev pub console_line : Outcome → List ℕ
+console_line outcome = ended (words_text (line_words outcome))
+
+-- a file that failed is told only where its count of that kind rose
+abbrev pub HasCause : View → View → Outcome → Type 0
+HasCause old new (NotOpened name) = Rose (old.opens name) (new.opens name)
+HasCause old new (NotRead name) = Rose (old.reads name) (new.reads name)
+HasCause old new (NotWritten name) = Rose (old.writes name) (new.writes name)
+HasCause old new outcome = Unit {0}
+
+-- a part of a shelf that can't be had
+abbrev pub of_open : List ℕ → ShelfFault → Outcome
+of_open name shelves.Failed = NotOpened name
+of_open name shelves.Memory = NoMemory
+
+-- a base that wasn't read
+abbrev pub of_import : List ℕ → ImportFault → Outcome
+of_import name imports.Read = NotRead name
+of_import name imports.Memory = NoMemory
+of_import name fault = Refused fault
+
+-- the end of the session
+abbrev pub of_served : List ℕ → List ℕ → Served → Outcome
+of_served input output (ends.Ended count) = Done
+of_served input output ends.ReadFault = NotRead input
+of_served input output ends.WriteFault = NotWritten output
+of_served input output ends.Limit = TooLong
+of_served input output served = NoMemory
+
+-- the first fault stays, but want of memory tops all
+abbrev pub first_of_two : Outcome → List ℕ → Outcome
+first_of_two Done name = NotWritten name
+first_of_two outcome name = outcome
+
+abbrev pub and_written : Outcome → List ℕ → Result (Unit {0}) SinkFault → Outcome
+and_written outcome name (Ok done) = outcome
+and_written outcome name (Err sinks.Failed) = first_of_two outcome name
+and_written outcome name (Err sinks.Memory) = NoMemory

@@ -20,11 +20,12 @@ pub use laws::{
 };
 pub use line::is_blank;
 pub use lines::Lines;
+pub use page::{Page, flush, put_line};
 pub use plan_schema::CellName;
 pub use query::QueryText;
 pub use read::{read_line, read_row};
 pub use reply::{Bad, Reply};
-pub use write::write_reply;
+pub use write::{room_bytes, rule_bytes, write_reply};
 
 #[cfg(test)]
 mod tests;

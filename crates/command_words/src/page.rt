@@ -8,11 +8,11 @@ ghost use Rattle.command_words.specs.Replies.{ended};
 use arrayvec::ArrayVec;
 use byte_lines::{Sink, SinkFault, write_all};
 
-/// Room for text that isn't written yet. A reply that fits is written by one call.
-pub(crate) type Page = ArrayVec<u8, 4096>;
+/// Room for text that isn't written yet, so that a long text is written by few calls, and a reply that fits by one.
+pub type Page = ArrayVec<u8, 4096>;
 
 /// Writes what is gathered.
-pub(crate) fn flush<S: Sink>(page: &mut Page, sink: &mut S) -> Result<(), SinkFault>
+pub fn flush<S: Sink>(page: &mut Page, sink: &mut S) -> Result<(), SinkFault>
     ensures wrote { Wrote S.taken S.faults S.label sink.old sink.new page.old.items result }
     ensures empty { OnOk result (page.new.items ≡ []) }
 {
@@ -43,8 +43,8 @@ fn put_first<S: Sink>(page: &mut Page, text: &[u8], sink: &mut S) -> Result<(), 
     write_all(sink, text)
 }
 
-/// Adds a line with its line feed.
-fn put_line<S: Sink>(page: &mut Page, line: &[u8], sink: &mut S) -> Result<(), SinkFault>
+/// Adds a line with its line feed. Where there is no room for it, what is gathered is written first.
+pub fn put_line<S: Sink>(page: &mut Page, line: &[u8], sink: &mut S) -> Result<(), SinkFault>
     ensures { Gathered S.taken S.faults S.label sink.old sink.new page.old.items page.new.items (ended line.now) result }
 {
     put(page, line, sink)?;

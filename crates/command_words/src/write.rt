@@ -149,7 +149,7 @@ fn push_about(text: &mut RowText, rule: &[u8], name: &Name)
 }
 
 /// The word for what is full.
-fn room_bytes(room: Room) -> &'static [u8]
+pub fn room_bytes(room: Room) -> &'static [u8]
     ensures word { result.now ≡ room_word room }
     ensures short { length result.now ≤ 20 }
 {
@@ -163,7 +163,7 @@ fn room_bytes(room: Room) -> &'static [u8]
 }
 
 /// The word for a rule that a field breaks.
-fn rule_bytes(rule: Rule) -> &'static [u8]
+pub fn rule_bytes(rule: Rule) -> &'static [u8]
     ensures word { result.now ≡ rule_word rule }
     ensures short { length result.now ≤ 20 }
 {

@@ -2,7 +2,6 @@
 #![tactic(auto)]
 
 mod journal;
-mod page;
 mod write;
 
 pub use journal::Journal;

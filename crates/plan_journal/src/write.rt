@@ -8,9 +8,9 @@ ghost use Rattle.command_words.specs.Replies.{ended};
 ghost use Rattle.plan_journal.specs.Entries.{change_words, entry_line, rows_text, rows_behind, entry_text, entries_text, journal_text};
 
 use crate::journal::Journal;
-use crate::page::{Page, flush, put_line};
 use arrayvec::ArrayVec;
 use byte_lines::{Sink, SinkFault};
+use command_words::{Page, flush, put_line};
 use itoa::Buffer;
 use plan_schema::{Change, Entry, Key, Name, Record, Rows};
 use row_text::{key_bytes, row_bytes};

@@ -1,14 +1,13 @@
 //! How a run ends.
 ghost use Rattle.std.specs.Prelude.{◌≡◌, ◌≢◌, ◌≤◌, ◌∷◌, ◌++◌, [], length};
 ghost use Rattle.plan_schema.specs.Outside.{Wrote};
-ghost use Rattle.command_words.specs.Replies as words;
 ghost use Rattle.response_program.specs.Outcomes as spec;
 ghost use Rattle.response_program.specs.Outcomes.{outcome_of};
 ghost use Rattle.arrayvec.specs.ArrayVec.{array_vec_len};
 
 use byte_lines::{Served, ShelfFault, Sink, SinkFault, write_all};
+use command_words::{room_bytes, rule_bytes};
 use plan_import::ImportFault;
-use plan_schema::{Room, Rule};
 use row_text::{RowText, push_number, push_word};
 
 /// How a run ends, with the name of the file that failed.
@@ -132,7 +131,7 @@ fn base_line(fault: ImportFault) -> RowText
             push_number(&mut text, u64::from(record));
             push_word(&mut text, b"field");
             push_number(&mut text, u64::from(field.field));
-            push_word(&mut text, rule_word(field.rule));
+            push_word(&mut text, rule_bytes(field.rule));
         }
         ImportFault::Twice(record) => {
             push_word(&mut text, b"twice");
@@ -140,37 +139,10 @@ fn base_line(fault: ImportFault) -> RowText
         }
         ImportFault::Full(room) => {
             push_word(&mut text, b"full");
-            push_word(&mut text, room_word(room));
+            push_word(&mut text, room_bytes(room));
         }
         _ => push_word(&mut text, b"no-plan"),
     }
     let _ = text.try_push(b'\n');
     text
-}
-
-/// The word for a rule that a field breaks.
-fn rule_word(rule: Rule) -> &'static [u8]
-    ensures word { result.now ≡ words.rule_word rule }
-    ensures short { length result.now ≤ 20 }
-{
-    match rule {
-        Rule::Shape => b"shape",
-        Rule::Range => b"range",
-        Rule::Date => b"date",
-        Rule::Own => b"self",
-    }
-}
-
-/// The word for what a base has too much of.
-fn room_word(room: Room) -> &'static [u8]
-    ensures word { result.now ≡ words.room_word room }
-    ensures short { length result.now ≤ 20 }
-{
-    match room {
-        Room::Bytes => b"bytes",
-        Room::Scenarios => b"scenarios",
-        Room::Parts => b"parts",
-        Room::Records => b"records",
-        Room::Journal => b"journal",
-    }
 }

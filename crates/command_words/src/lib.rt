@@ -23,7 +23,7 @@ pub use lines::Lines;
 pub use page::{Page, flush, put_line};
 pub use plan_schema::CellName;
 pub use query::QueryText;
-pub use read::{read_line, read_row};
+pub use read::{Words, read_line, read_row, words_in};
 pub use reply::{Bad, Reply};
 pub use write::{room_bytes, rule_bytes, write_reply};
 

@@ -18,7 +18,7 @@ use plan_schema::{FieldFault, Key, Record};
 use row_text::{read_record, text_at};
 
 /// The words of a line: one of at most 1,024 bytes has at most 512.
-type Words<'a> = ArrayVec<&'a [u8], 512>;
+pub type Words<'a> = ArrayVec<&'a [u8], 512>;
 
 /// The command that a line is, or the first fault of it. Takes no memory.
 pub fn read_line<'a>(line: &'a [u8]) -> Result<Command<'a>, Bad>
@@ -40,7 +40,8 @@ pub fn read_row(line: &[u8]) -> Result<(Key, Record), FieldFault>
     read_record(words.as_slice())
 }
 
-fn words_in(line: &[u8]) -> Words<'_>
+/// The words of a line, in order. Takes no memory.
+pub fn words_in(line: &[u8]) -> Words<'_>
     requires { length line.now ≤ 1024 }
     ensures { texts result.items ≡ words_of line.now }
 {

@@ -1,2 +1,16 @@
 pub mod Worked
+pub mod WorkedReading
 pub mod Texts
+pub mod Pieces
+pub mod Steps
+pub mod JournalTold
+pub mod Singly
+pub mod ShortWords
+pub mod EntryLines
+pub mod BegunLines
+pub mod PlaceTexts
+pub mod TextsAgain
+pub mod JournalLaws
+pub mod EntryTold
+pub mod Completions
+pub mod FaultyLines

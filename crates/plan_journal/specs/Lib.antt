@@ -1,3 +1,13 @@
 pub mod Entries
 pub mod Held
+pub mod Cuts
+pub mod Versions
+pub mod Begun
+pub mod Places
+pub mod Reading
+pub mod Laws
+pub mod Told
+pub use Rattle.plan_schema.specs.Sound
 pub use Rattle.plan_schema.specs.Outside
+pub use Rattle.scenario_rules.specs.Journal
+pub use Rattle.scenario_rules.specs.Refused

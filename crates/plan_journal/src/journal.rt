@@ -1,7 +1,8 @@
 //! The list of entries.
-ghost use Rattle.std.specs.Prelude.{◌≡◌, ◌==◌, ◌≤◌, ◌+◌, [], ◌∷◌, ◌++◌, length, OnOk, OnErr};
+ghost use Rattle.std.specs.Prelude.{◌≡◌, ◌==◌, ◌≤◌, ◌+◌, [], ◌∷◌, ◌++◌, length, List, OnOk, OnErr, MatchOption};
 ghost use Rattle.std.specs.Option.{option_copied};
 ghost use Rattle.std.specs.List.{slice_get};
+ghost use Rattle.plan_schema.specs.declared.change.Entry.{Entry};
 
 use plan_schema::Entry;
 use std::alloc::{AllocError, Global};
@@ -76,6 +77,14 @@ impl Journal {
         ensures { option_copied result ≡ slice_get self.now.entries place }
     {
         self.entries.get(place)
+    }
+
+    /// The last entry, if there are entries.
+    pub(crate) fn into_last(self) -> Option<Entry>
+        ensures { MatchOption result (self.entries ≡ []) (λ entry. (front : List Entry) × (self.entries ≡ front ++ entry ∷ [])) }
+    {
+        let mut entries = self.entries;
+        entries.pop()
     }
 
     /// The entries, the first one first.

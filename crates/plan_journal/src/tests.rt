@@ -1,7 +1,10 @@
 //! Tests of journals and of their text.
 
-use crate::{Change, Entry, Journal, write_entry, write_journal};
-use byte_lines::{Calls, MemoryOut, SinkFault};
+use crate::{
+    Change, Entry, Journal, JournalFault, faulty_lines_are_first, journals_have_one_text,
+    read_entry, read_journal, write_entry, write_journal,
+};
+use byte_lines::{Bytes, Calls, MemoryIn, MemoryOut, SinkFault};
 use plan_schema::{Day, Key, Lot, Name, Record, Rows, Series, Span};
 use std::alloc::{AllocError, Global};
 use std::process::Abort;
@@ -206,5 +209,165 @@ fn a_failed_write_leaves_a_front(rt: HostRuntime) -> Result<(), Fail> {
             .starts_with(b"1 1 2 ann LOAD X 1000\nSTOCK A 1000\n")
     );
     assert!(rt; sink.bytes().len() <= 4096);
+    Ok(())
+}
+
+/// Every kind of change, and the longest numbers.
+const TEXTS: [(u64, &str); 11] = [
+    (1, "1 1 1 ann PUT Baseline STOCK A 60\n"),
+    (
+        2,
+        "2 16 1000000 ann PUT X BILL A B 3 2025-03-03 2025-03-07\n",
+    ),
+    (3, "3 1 3 ann DEL Baseline DEMAND A D1\n"),
+    (4, "4 1 4 ann LOAD X 1\nPART A 2 MM:5:10 0 -\n"),
+    (
+        5,
+        "5 1 5 ann LOAD X 3\nSTOCK A 40\nCAL W 1111100\nBILL A B 3 2025-03-03 2025-03-07\n",
+    ),
+    (6, "6 2 1 ann BRANCH Baseline X\n"),
+    (7, "7 2 2 ann SHARE X\n"),
+    (8, "8 2 3 ann UPDATE X\n"),
+    (9, "9 2 4 ann COMMIT X\n"),
+    (10, "10 2 5 ann DROP X\n"),
+    (
+        18_446_744_073_709_551_615,
+        "18446744073709551615 1 1 a SHARE X\n",
+    ),
+];
+
+#[test]
+fn entries_are_read_back(rt: HostRuntime) -> Result<(), Fail> {
+    for (number, text) in TEXTS {
+        let found = read_entry(rt.alloc(), number, text.as_bytes())?;
+        let entry = found.ok_or(text)?;
+        writes(&rt, rt.alloc(), number, &entry, text)?;
+    }
+    Ok(())
+}
+
+#[test]
+fn other_texts_are_no_entries(rt: HostRuntime) -> Result<(), Fail> {
+    let texts = [
+        "",
+        "\n",
+        "1 1 1 ann SHARE X",
+        "1 1 1 ann SHARE X\n\n",
+        "1 1 1 ann SHARE X\n2 1 2 ann SHARE X\n",
+        "2 1 1 ann SHARE X\n",
+        "1 1 1 SHARE X\n",
+        "1 1 1 ann HELLO ann\n",
+        "1 1 1 ann LOAD X 2\nSTOCK A 40\n",
+        "1 1 1 ann LOAD X 1\nSTOCK A 40",
+        "1 1 1 ann LOAD X 1\nSTOCK A 40\nSTOCK B 40\n",
+    ];
+    for text in texts {
+        let found = read_entry(rt.alloc(), 1, text.as_bytes())?;
+        assert!(rt; found.is_none(), "{text}");
+    }
+    Ok(())
+}
+
+/// What is read of pieces of text, one behind the other.
+fn read_of(
+    alloc: Global,
+    pieces: &[&str],
+    fails: Calls,
+) -> Result<Result<Journal, JournalFault>, AllocError> {
+    let mut bytes = Bytes::new(alloc);
+    for piece in pieces {
+        bytes.extend(piece.as_bytes())?;
+    }
+    let mut source = MemoryIn::new(alloc, bytes, fails);
+    Ok(read_journal(alloc, &mut source))
+}
+
+#[test]
+fn journals_are_read_back(rt: HostRuntime) -> Result<(), Fail> {
+    let work =
+        "1 1 2 ann BRANCH Baseline X\n2 1 3 ann LOAD X 2\nSTOCK A 40\nBILL A B 3\n3 1 6 ann PUT Baseline STOCK B 5\n4 1 7 ann UPDATE X\n5 1 8 ann DEL X STOCK A\n6 1 9 ann COMMIT X\n7 1 10 ann SHARE X\n8 1 11 ann DROP X\n";
+    let span = "9 1 12 ann PUT Baseline BILL A B 3 2025-03-03 2025-03-07\n";
+    let whole: [(&[&str], usize, &str); 4] = [
+        (&["plan-journal 2\n"], 0, ""),
+        (&["plan-journal 1\n"], 0, ""),
+        (&["plan-journal 1\n", work], 8, work),
+        (&["plan-journal 2\n", work], 8, work),
+    ];
+    let alloc = rt.alloc();
+    for (pieces, count, text) in whole {
+        let journal = read_of(alloc, pieces, no_calls(alloc))?.ok().ok_or(text)?;
+        assert_eq!(rt; journal.len(), count);
+        let mut again = Bytes::new(alloc);
+        again.extend(b"plan-journal 2\n")?;
+        again.extend(text.as_bytes())?;
+        let mut sink = MemoryOut::new(alloc, no_calls(alloc));
+        assert_eq!(rt; write_journal(&journal, &mut sink), Ok(()));
+        assert_eq!(rt; sink.bytes(), again.as_slice());
+    }
+    let newer = read_of(alloc, &["plan-journal 2\n", work, span], no_calls(alloc))?;
+    assert_eq!(rt; newer.ok().map(|journal| journal.len()), Some(9));
+    let older = read_of(alloc, &["plan-journal 1\n", work, span], no_calls(alloc))?;
+    assert_eq!(rt; older.err(), Some(JournalFault::Form(12)));
+    journals_have_one_text();
+    Ok(())
+}
+
+/// Texts that are no journals, and the number of the first line that no journal goes on with.
+const FAULTY: [(&str, u64); 28] = [
+    ("", 1),
+    ("plan-journal 2", 1),
+    ("plan-journal 3\n", 1),
+    ("plan-journal 2\r\n", 1),
+    ("plan-journal 02\n", 1),
+    ("plan-journal 2\n\n", 2),
+    ("plan-journal 2\n0 1 1 ann SHARE X\n", 2),
+    ("plan-journal 2\n2 1 1 ann SHARE X\n", 2),
+    ("plan-journal 2\n1 1 1 ann  SHARE X\n", 2),
+    ("plan-journal 2\n1 1 1 ann SHARE  X\n", 2),
+    ("plan-journal 2\n1 1 1 ann SHARE X \n", 2),
+    ("plan-journal 2\n1 1 1 ann SHARE\tX\n", 2),
+    ("plan-journal 2\n1 1 1 ann SHARE X\r\n", 2),
+    ("plan-journal 2\n1 01 1 ann SHARE X\n", 2),
+    ("plan-journal 2\n1 0 1 ann SHARE X\n", 2),
+    ("plan-journal 2\n1 17 1 ann SHARE X\n", 2),
+    ("plan-journal 2\n1 1 1000001 ann SHARE X\n", 2),
+    ("plan-journal 2\n1 1 1 ann TREE\n", 2),
+    ("plan-journal 2\n1 1 1 ann DEL X PLAN\n", 2),
+    ("plan-journal 2\n1 1 1 ann DEL X BILL A A\n", 2),
+    ("plan-journal 2\n1 1 1 ann LOAD X 0\n", 2),
+    ("plan-journal 2\n1 1 1 ann LOAD X 1001\n", 2),
+    ("plan-journal 2\n1 1 1 ann LOAD X 2\nSTOCK A 40\n", 4),
+    (
+        "plan-journal 2\n1 1 1 ann LOAD X 2\nSTOCK A 40\nSTOCK B 05\n",
+        4,
+    ),
+    (
+        "plan-journal 2\n1 1 1 ann LOAD X 1\nSTOCK A 40\nSTOCK B 5\n",
+        4,
+    ),
+    ("plan-journal 2\n1 1 1 ann SHARE X\n2 1 2 ann SHARE X", 3),
+    ("plan-journal 2\n1 1 1 ann SHARE X\n1 1 2 ann SHARE X\n", 3),
+    (
+        "plan-journal 1\n1 1 1 ann LOAD X 1\nBILL A B 3 2025-03-03 2025-03-07\n",
+        3,
+    ),
+];
+
+#[test]
+fn faulty_lines_are_told(rt: HostRuntime) -> Result<(), Fail> {
+    for (text, line) in FAULTY {
+        let read = read_of(rt.alloc(), &[text], no_calls(rt.alloc()))?;
+        assert_eq!(rt; read.err(), Some(JournalFault::Form(line)), "{text}");
+    }
+    faulty_lines_are_first();
+    Ok(())
+}
+
+#[test]
+fn a_failed_source_is_told(rt: HostRuntime) -> Result<(), Fail> {
+    let mut first = no_calls(rt.alloc());
+    first.push(1)?;
+    let read = read_of(rt.alloc(), &["plan-journal 2\n"], first)?;
+    assert_eq!(rt; read.err(), Some(JournalFault::Read));
     Ok(())
 }

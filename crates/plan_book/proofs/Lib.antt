@@ -1,0 +1,6 @@
+pub mod Counts
+pub mod Limits
+pub mod Histories
+pub mod RootLaws
+pub mod Answered
+pub mod Worked

@@ -43,7 +43,7 @@ both_fell a b c h k =
 
 -- a cause stays one over longer stretches
 pub cause_later : (a b c : View) (outcome : Outcome) → NoneFell b c → HasCause a b outcome → HasCause a c outcome
-cause_later a b c Done h k = tt
+cause_later a b c (Done entries) h k = tt
 cause_later a b c NoMemory h k = tt
 cause_later a b c (Refused fault) h k = tt
 cause_later a b c (NotOpened name) h k = rose_later _ _ _ k (h.opens name)
@@ -52,7 +52,7 @@ cause_later a b c (NotWritten name) h k = rose_later _ _ _ k (h.writes name)
 cause_later a b c TooLong h k = tt
 
 pub cause_after : (a b c : View) (outcome : Outcome) → NoneFell a b → HasCause b c outcome → HasCause a c outcome
-cause_after a b c Done h k = tt
+cause_after a b c (Done entries) h k = tt
 cause_after a b c NoMemory h k = tt
 cause_after a b c (Refused fault) h k = tt
 cause_after a b c (NotOpened name) h k = rose_after _ _ _ (h.opens name) k

@@ -3,5 +3,7 @@ pub mod Chains
 pub mod Desks
 pub mod Overs
 pub mod Plain
+pub mod Books
 pub mod Headline
+pub mod Bases
 pub mod NamesApart

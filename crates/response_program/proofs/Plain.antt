@@ -20,97 +20,13 @@ use Rattle.row_text.specs.Row.{◌>>=◌, text_at, text_of_field, name_at, day_a
 use Rattle.row_text.specs.Open.{is_closed_word, open_row_of}
 use Rattle.plan_import.specs.declared.ImportFault.{ImportFault}
 use Rattle.plan_import.specs.BaseFile.{byte_limit, base_records, numbered, with_new, with_numbered, with_records, within_limits, base_of_records, base_of}
-use Rattle.sessions.specs.Plans.{is_bill, has_no_bills}
-
--- what is read is no bill
-NoBill : Result (Key × Record) FieldFault → Type 0
-NoBill read = IfOk read (λ row. not (is_bill row.0) ≡ true)
-
-later : {A : Type 0} (first : Result A FieldFault) (f : A → Result (Key × Record) FieldFault) → ((x : A) → NoBill (f x)) → NoBill (first >>= f)
-unfolding NoBill
-later (Ok x) f h = h x
-later (Err fault) f h = tt
-
-plan_none : (fields : List (List ℕ)) → NoBill (plan_of fields)
-unfolding NoBill plan_of
-plan_none fields = later (day_at fields 1) _ (λ start. later (days_at fields 2 start) _ (λ days. later (end_at fields 3) _ (λ none. refl)))
-
-cal_none : (fields : List (List ℕ)) → NoBill (cal_of fields)
-unfolding NoBill cal_of
-cal_none fields = later (name_at fields 1) _ (λ name. later (week_at fields 2) _ (λ week. later (end_at fields 3) _ (λ none. refl)))
-
-holiday_none : (fields : List (List ℕ)) → NoBill (holiday_of fields)
-unfolding NoBill holiday_of
-holiday_none fields = later (name_at fields 1) _ (λ name. later (day_at fields 2) _ (λ day. later (end_at fields 3) _ (λ none. refl)))
-
-part_none : (fields : List (List ℕ)) → NoBill (part_of fields)
-unfolding NoBill part_of
-part_none fields =
-    later (name_at fields 1) _ (λ name. later (number_at fields 2 0 365) _ (λ lead. later (lot_at fields 3) _ (λ lot. later (number_at fields 4 0 1_000_000_000) _
-    (λ safety. later (calendar_at fields 5) _ (λ calendar. later (end_at fields 6) _ (λ none. refl))))))
-
-stock_none : (fields : List (List ℕ)) → NoBill (stock_of fields)
-unfolding NoBill stock_of
-stock_none fields = later (name_at fields 1) _ (λ part. later (number_at fields 2 0 1_000_000_000) _ (λ qty. later (end_at fields 3) _ (λ none. refl)))
-
-demand_none : (fields : List (List ℕ)) → NoBill (demand_of fields)
-unfolding NoBill demand_of
-demand_none fields =
-    later (name_at fields 1) _ (λ part. later (name_at fields 2) _ (λ order. later (day_at fields 3) _ (λ day. later (number_at fields 4 0 1_000_000_000) _ (λ qty. later (end_at fields 5) _ (λ none. refl)))))
-
-receipt_none : (fields : List (List ℕ)) → NoBill (receipt_of fields)
-unfolding NoBill receipt_of
-receipt_none fields =
-    later (name_at fields 1) _ (λ part. later (name_at fields 2) _ (λ order. later (day_at fields 3) _ (λ day. later (number_at fields 4 0 1_000_000_000) _ (λ qty. later (end_at fields 5) _ (λ none. refl)))))
-
-either : (b : Bool) (x y : Result (Key × Record) FieldFault) → NoBill x → NoBill y → NoBill (cond b x y)
-either true x y h k = h
-either false x y h k = k
-
-table_none : (word : List ℕ) (fields : List (List ℕ)) → pointwise nat_eq word (codes "BILL") ≡ false → NoBill (row_of_table word fields)
-unfolding NoBill row_of_table
-table_none word fields accepted =
-    either (pointwise nat_eq word (codes "PLAN")) _ _ (plan_none fields)
-    (either (pointwise nat_eq word (codes "CAL")) _ _ (cal_none fields)
-    (either (pointwise nat_eq word (codes "HOLIDAY")) _ _ (holiday_none fields)
-    (either (pointwise nat_eq word (codes "PART")) _ _ (part_none fields)
-    (either (pointwise nat_eq word (codes "STOCK")) _ _ (stock_none fields)
-    (either (pointwise nat_eq word (codes "DEMAND")) _ _ (demand_none fields)
-    (either (pointwise nat_eq word (codes "RECEIPT")) _ _ (receipt_none fields) (by_word _ (pointwise nat_eq word (codes "BILL")) accepted)))))))
-  where
-    by_word : (fault : FieldFault) (b : Bool) → b ≡ false → NoBill (cond b (bill_of fields) (Err fault))
-    by_word fault true is = cc
-    by_word fault false is = tt
-
-open_none : (fields : List (List ℕ)) → NoBill (open_row_of fields)
-unfolding NoBill open_row_of row_of text_at
-open_none fields = by_first _ (slice_get fields 0)
-  where
-    by_closed : (fault : FieldFault) (word : List ℕ) (b : Bool) → pointwise nat_eq word (codes "BILL") ≡ b → NoBill (cond b (Err fault) (row_of_table word fields))
-    by_closed fault word true is = tt
-    by_closed fault word false is = table_none word fields is
-
-    by_first : (fault : FieldFault) (first : Option (List ℕ)) → NoBill (cond (is_closed_word first) (Err fault) (text_of_field 0 first >>= (λ word. row_of_table word fields)))
-    by_first fault None = tt
-    by_first fault (Some word) = by_closed fault word (pointwise nat_eq word (codes "BILL")) refl
-
--- contents with one more row
-with_one : (c : Contents) (key : Key) (value : Record) → has_no_bills c ≡ true → not (is_bill key) ≡ true → has_no_bills (with_record c key value) ≡ true
-with_one [] key value h one = and_from (not (is_bill key)) true one refl
-with_one (e ∷ es) key value h one =
-    let parts = and_parts (not (is_bill e.0)) (has_no_bills es) h in
-    by_order (with_one es key value parts.1 one) (key_cmp key e.0) parts
-  where
-    by_order : has_no_bills (with_record es key value) ≡ true → (o : Ordering) → (not (is_bill e.0) ≡ true) × (has_no_bills es ≡ true)
-        → has_no_bills (match_ordering o ((key, value) ∷ e ∷ es) ((e.0, value) ∷ es) (e ∷ with_record es key value)) ≡ true
-    by_order more Less p = and_from (not (is_bill key)) (has_no_bills (e ∷ es)) one h
-    by_order more Equal p = and_from (not (is_bill e.0)) (has_no_bills es) p.0 p.1
-    by_order more Greater p = and_from (not (is_bill e.0)) (has_no_bills (with_record es key value)) p.0 more
+use Rattle.sessions.specs.Plans.{has_no_bills}
+use Rattle.sessions.proofs.NoBills.{NoBill, row_key, open_none, with_one}
 
 Plain : Result Contents ImportFault → Type 0
 Plain read = IfOk read (λ c. has_no_bills c ≡ true)
 
-one_row : (k : ℕ) (c : Contents) (read : Result (Key × Record) FieldFault) → has_no_bills c ≡ true → NoBill read → Plain (numbered k read >>= with_new k c)
+one_row : (k : ℕ) (c : Contents) (read : Result (Key × Record) FieldFault) → has_no_bills c ≡ true → NoBill row_key read → Plain (numbered k read >>= with_new k c)
 unfolding Plain NoBill with_new
 one_row k c (Ok row) h one = by_key _ (is_some (record_at c row.0))
   where

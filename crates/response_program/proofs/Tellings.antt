@@ -2,11 +2,7 @@
 use Rattle.std.proofs.Common.{◌≡◌, ℕ, List, [], ◌∷◌, ◌++◌, refl, sym, ap, ◌∙◌, append-nil}
 use Rattle.std.specs.Prelude.{codes}
 use Rattle.std.specs.Fmt.{digits}
-use Rattle.response_program.specs.Outcomes.{Done, TooLong, NotOpened, NotRead, NotWritten, console_line}
-
-pub done_line : codes "entries 0 netted 0 reused 0 dropped 0\n" ≡ console_line Done
-unfolding digits
-done_line = refl
+use Rattle.response_program.specs.Outcomes.{TooLong, NotOpened, NotRead, NotWritten, console_line}
 
 pub limit_line : codes "limit 1\n" ≡ console_line TooLong
 unfolding digits

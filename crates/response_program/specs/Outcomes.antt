@@ -16,9 +16,9 @@ use Rattle.response_program.specs.declared.ending.Ending.{Ending}
 use Rattle.response_program.specs.declared.ending.Ending.TheVariants as endings
 use Rattle.response_program.specs.Views.{View}
 
--- everything ended; there was no memory; the base is refused; a file can't be opened, read or written; the input is too long
+-- everything ended, with so many entries; there was no memory; the base is refused; a file can't be opened, read or written; the input is too long
 pub data Outcome : Type 0 where
-  Done : Outcome
+  Done : ℕ → Outcome
   NoMemory : Outcome
   Refused : ImportFault → Outcome
   NotOpened : List ℕ → Outcome
@@ -27,7 +27,7 @@ pub data Outcome : Type 0 where
   TooLong : Outcome
 
 abbrev pub outcome_of : Ending → Outcome
-outcome_of endings.Done = Done
+outcome_of (endings.Done entries) = Done entries
 outcome_of endings.Memory = NoMemory
 outcome_of (endings.Base fault) = Refused fault
 outcome_of (endings.Open name) = NotOpened name.now
@@ -37,7 +37,7 @@ outcome_of endings.Limit = TooLong
 
 -- the status of the program
 abbrev pub status_of : Outcome → ℕ
-status_of Done = 0
+status_of (Done entries) = 0
 status_of NoMemory = 1
 status_of (Refused fault) = 3
 status_of (NotOpened name) = 4
@@ -54,7 +54,7 @@ base_words fault = codes "no-plan" ∷ []
 
 -- the console's line
 abbrev pub line_words : Outcome → List (List ℕ)
-line_words Done = codes "entries" ∷ decimal 0 ∷ codes "netted" ∷ decimal 0 ∷ codes "reused" ∷ decimal 0 ∷ codes "dropped" ∷ decimal 0 ∷ []
+line_words (Done entries) = codes "entries" ∷ decimal entries ∷ codes "netted" ∷ decimal 0 ∷ codes "reused" ∷ decimal 0 ∷ codes "dropped" ∷ decimal 0 ∷ []
 line_words NoMemory = codes "memory" ∷ []
 line_words (Refused fault) = codes "base" ∷ base_words fault
 line_words (NotOpened name) = codes "open" ∷ name ∷ []
@@ -83,17 +83,17 @@ of_import name imports.Read = NotRead name
 of_import name imports.Memory = NoMemory
 of_import name fault = Refused fault
 
--- the end of the session
-abbrev pub of_served : List ℕ → List ℕ → Served → Outcome
-of_served input output (ends.Ended count) = Done
-of_served input output ends.ReadFault = NotRead input
-of_served input output ends.WriteFault = NotWritten output
-of_served input output ends.Limit = TooLong
-of_served input output served = NoMemory
+-- the end of the session, behind which there are so many entries
+abbrev pub of_served : List ℕ → List ℕ → ℕ → Served → Outcome
+of_served input output entries (ends.Ended count) = Done entries
+of_served input output entries ends.ReadFault = NotRead input
+of_served input output entries ends.WriteFault = NotWritten output
+of_served input output entries ends.Limit = TooLong
+of_served input output entries served = NoMemory
 
 -- the first fault stays, but want of memory tops all
 abbrev pub first_of_two : Outcome → List ℕ → Outcome
-first_of_two Done name = NotWritten name
+first_of_two (Done entries) name = NotWritten name
 first_of_two outcome name = outcome
 
 abbrev pub and_written : Outcome → List ℕ → Result (Unit {0}) SinkFault → Outcome

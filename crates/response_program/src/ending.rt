@@ -13,7 +13,8 @@ use row_text::{RowText, push_number, push_word};
 /// How a run ends, with the name of the file that failed.
 #[derive(Clone, Copy)]
 pub enum Ending<'a> {
-    Done,
+    /// With so many entries in the journal.
+    Done(u64),
     Memory,
     Base(ImportFault),
     Open(&'a str),
@@ -44,12 +45,12 @@ impl<'a> Ending<'a> {
         }
     }
 
-    /// What the end of the session comes to.
-    pub fn of_served(input: &'a str, output: &'a str, served: Served) -> Ending<'a>
-        ensures { outcome_of result ≡ spec.of_served input.now output.now served }
+    /// What the end of the session comes to, behind which there are so many entries.
+    pub fn of_served(input: &'a str, output: &'a str, entries: u64, served: Served) -> Ending<'a>
+        ensures { outcome_of result ≡ spec.of_served input.now output.now entries served }
     {
         match served {
-            Served::Ended(_) => Ending::Done,
+            Served::Ended(_) => Ending::Done(entries),
             Served::ReadFault => Ending::Read(input),
             Served::WriteFault => Ending::Write(output),
             Served::Limit => Ending::Limit,
@@ -65,7 +66,7 @@ impl<'a> Ending<'a> {
             Ok(()) => self,
             Err(SinkFault::Memory) => Ending::Memory,
             Err(SinkFault::Failed) => match self {
-                Ending::Done => Ending::Write(name),
+                Ending::Done(_) => Ending::Write(name),
                 ending => ending,
             },
         }
@@ -77,7 +78,7 @@ impl<'a> Ending<'a> {
         ensures known { result ≢ 2 }
     {
         match self {
-            Ending::Done => 0,
+            Ending::Done(_) => 0,
             Ending::Memory => 1,
             Ending::Base(_) => 3,
             Ending::Open(_) => 4,
@@ -92,7 +93,7 @@ impl<'a> Ending<'a> {
         ensures { Wrote K.taken K.faults K.label console.old console.new (spec.console_line (outcome_of self.now)) result }
     {
         match self {
-            Ending::Done => write_all(console, b"entries 0 netted 0 reused 0 dropped 0\n"),
+            Ending::Done(entries) => write_all(console, done_line(*entries).as_slice()),
             Ending::Memory => write_all(console, b"memory\n"),
             Ending::Base(fault) => write_all(console, base_line(*fault).as_slice()),
             Ending::Open(name) => tell_of(console, b"open ", name),
@@ -117,6 +118,23 @@ fn tell_name<K: Sink>(console: &mut K, name: &str) -> Result<(), SinkFault>
 {
     write_all(console, name.as_bytes())?;
     write_all(console, b"\n")
+}
+
+/// The line of a run that is done. Nothing is counted but its entries yet.
+fn done_line(entries: u64) -> RowText
+    ensures { result.items ≡ spec.console_line (spec.Done entries) }
+{
+    let mut text = RowText::new();
+    let _ = text.try_extend_from_slice(b"entries");
+    push_number(&mut text, entries);
+    push_word(&mut text, b"netted");
+    push_number(&mut text, 0);
+    push_word(&mut text, b"reused");
+    push_number(&mut text, 0);
+    push_word(&mut text, b"dropped");
+    push_number(&mut text, 0);
+    let _ = text.try_push(b'\n');
+    text
 }
 
 /// The line for a base that was refused.

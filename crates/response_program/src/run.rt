@@ -1,18 +1,20 @@
 //! A run: one session over a base.
-ghost use Rattle.std.specs.Prelude.{◌≡◌, ◌≢◌, true, false, map, string_bytes};
+ghost use Rattle.std.specs.Prelude.{◌≡◌, ◌≢◌, [], OnErr, true, false, map, string_bytes};
 ghost use Rattle.plan_schema.specs.Base.{is_base};
 ghost use Rattle.response_program.specs.Views.{view};
 ghost use Rattle.response_program.specs.Outcomes.{outcome_of};
-ghost use Rattle.response_program.specs.Runs.{Differ, HasRun, HasRunDesk, HasRunOver, HasServedDesk, names_of};
+ghost use Rattle.response_program.specs.Runs.{Differ, HasRun, HasRunBook, HasRunDesk, HasRunOver, HasServedDesk, names_of};
 ghost use Rattle.response_program.specs.Words.{is_run};
 ghost use Rattle.response_program.specs.Responses.{HasResponded, HasRefused, names_in};
 
 use crate::ending::Ending;
 use crate::words::{RunWords, read_words};
 use byte_lines::{Served, Shelf, ShelfFault, SinkFault, write_all};
+use plan_book::Book;
 use plan_import::import;
+use plan_journal::write_journal;
 use plan_schema::{Contents, Steps};
-use sessions::serve_first;
+use sessions::serve_alone;
 use std::alloc::Global;
 use std::marker::Brand;
 use std::sync::ledger::{Blank, Ledger};
@@ -25,9 +27,6 @@ const WORDS: u8 = 2;
 
 /// The status of want of memory.
 const NO_MEMORY: u8 = 1;
-
-/// The first line of a journal.
-const JOURNAL_HEAD: &[u8] = b"plan-journal 2\n";
 
 /// Does what the words ask for with the files of a shelf, tells the console how it ended, and answers the status: 0 where all ended,
 /// 1 for want of memory, 2 where the words aren't the program's, 3 where the base is refused, 4, 5 and 6 where a file couldn't be
@@ -103,52 +102,82 @@ fn run<'a, L: Ledger, H: Shelf>(
     let imported = import(alloc, &mut source);
     shelf.give_in(names.base, source);
     match imported {
-        Ok(contents) => run_over(alloc, names, &contents, shelf, steps),
+        Ok(contents) => run_book(alloc, names, contents, shelf, steps),
         Err(fault) => Ending::of_import(names.base, fault),
     }
 }
 
-/// Makes the journal, runs the session, and writes the journal.
-fn run_over<'a, L: Ledger, H: Shelf>(
+/// Begins a book with the records of the base, and runs over it.
+fn run_book<'a, L: Ledger, H: Shelf>(
     alloc: Global,
     names: &RunWords<'a>,
-    contents: &Contents,
+    contents: Contents,
     shelf: &mut H,
     steps: &mut Steps<L>,
 ) -> Ending<'a>
-    requires base { is_base contents.now ≡ true }
+    requires base { is_base contents ≡ true }
     requires differ { Differ (names_of names.now) }
-    ensures { HasRunOver (view H.held H.open_faults H.read_faults H.write_faults shelf.old) (view H.held H.open_faults H.read_faults H.write_faults shelf.new) (names_of names.now) contents.now (outcome_of result) }
+    ensures { HasRunBook (view H.held H.open_faults H.read_faults H.write_faults shelf.old) (view H.held H.open_faults H.read_faults H.write_faults shelf.new) (names_of names.now) contents (outcome_of result) }
+{
+    let begun = Book::begin(alloc, &contents);
+    drop(contents);
+    match begun {
+        Ok(mut book) => run_over(alloc, names, &mut book, shelf, steps),
+        Err(_) => Ending::Memory,
+    }
+}
+
+/// Makes the journal, runs the session, and writes the entries, whatever the session came to. Where it couldn't begin, the journal
+/// stays empty.
+fn run_over<'a, L: Ledger, H: Shelf>(
+    alloc: Global,
+    names: &RunWords<'a>,
+    book: &mut Book,
+    shelf: &mut H,
+    steps: &mut Steps<L>,
+) -> Ending<'a>
+    requires empty { book.old.entries ≡ [] }
+    requires differ { Differ (names_of names.now) }
+    ensures { HasRunOver (view H.held H.open_faults H.read_faults H.write_faults shelf.old) (view H.held H.open_faults H.read_faults H.write_faults shelf.new) (names_of names.now) book.old.base book.new.entries (outcome_of result) }
 {
     let mut journal = match shelf.make_out(names.journal) {
         Ok(journal) => journal,
         Err(fault) => return Ending::of_open(names.journal, fault),
     };
-    let ending = match run_desk(alloc, names, contents, shelf, steps) {
-        Ok(served) => Ending::of_served(names.input, names.output, served),
-        Err(ending) => ending,
+    let served = match run_desk(alloc, names, book, shelf, steps) {
+        Ok(served) => served,
+        Err(ending) => {
+            shelf.give_out(names.journal, journal);
+            return ending;
+        }
     };
-    let written = write_all(&mut journal, JOURNAL_HEAD);
+    let entries = book.journal();
+    let written = write_journal(entries, &mut journal);
     shelf.give_out(names.journal, journal);
-    ending.and_written(names.journal, written)
+    Ending::of_served(names.input, names.output, entries.len() as u64, served).and_written(
+        names.journal,
+        written,
+    )
 }
 
 /// Opens the input, and serves its session.
 fn run_desk<'a, L: Ledger, H: Shelf>(
     alloc: Global,
     names: &RunWords<'a>,
-    contents: &Contents,
+    book: &mut Book,
     shelf: &mut H,
     steps: &mut Steps<L>,
 ) -> Result<Served, Ending<'a>>
-    requires { is_base contents.now ≡ true }
-    ensures { HasRunDesk (view H.held H.open_faults H.read_faults H.write_faults shelf.old) (view H.held H.open_faults H.read_faults H.write_faults shelf.new) (names_of names.now) contents.now result }
+    requires { book.old.entries ≡ [] }
+    ensures kept { book.new.base ≡ book.old.base }
+    ensures unserved { OnErr result (book.new ≡ book.old) }
+    ensures desk { HasRunDesk (view H.held H.open_faults H.read_faults H.write_faults shelf.old) (view H.held H.open_faults H.read_faults H.write_faults shelf.new) (names_of names.now) book.old.base book.new.entries result }
 {
     let mut source = match shelf.open_in(names.input) {
         Ok(source) => source,
         Err(fault) => return Err(Ending::of_open(names.input, fault)),
     };
-    let served = serve_desk(alloc, names, contents, shelf, steps, &mut source);
+    let served = serve_desk(alloc, names, book, shelf, steps, &mut source);
     shelf.give_in(names.input, source);
     served
 }
@@ -157,19 +186,21 @@ fn run_desk<'a, L: Ledger, H: Shelf>(
 fn serve_desk<'a, L: Ledger, H: Shelf>(
     alloc: Global,
     names: &RunWords<'a>,
-    contents: &Contents,
+    book: &mut Book,
     shelf: &mut H,
     steps: &mut Steps<L>,
     source: &mut H::In,
 ) -> Result<Served, Ending<'a>>
-    requires { is_base contents.now ≡ true }
-    ensures { HasServedDesk H.In.left H.In.faults H.In.label source.old source.new (view H.held H.open_faults H.read_faults H.write_faults shelf.old) (view H.held H.open_faults H.read_faults H.write_faults shelf.new) (names_of names.now) contents.now result }
+    requires { book.old.entries ≡ [] }
+    ensures kept { book.new.base ≡ book.old.base }
+    ensures unserved { OnErr result (book.new ≡ book.old) }
+    ensures desk { HasServedDesk H.In.left H.In.faults H.In.label source.old source.new (view H.held H.open_faults H.read_faults H.write_faults shelf.old) (view H.held H.open_faults H.read_faults H.write_faults shelf.new) (names_of names.now) book.old.base book.new.entries result }
 {
     let mut sink = match shelf.make_out(names.output) {
         Ok(sink) => sink,
         Err(fault) => return Err(Ending::of_open(names.output, fault)),
     };
-    let served = serve_first(alloc, contents, steps, source, &mut sink);
+    let served = serve_alone(alloc, book, 1, true, steps, source, &mut sink);
     shelf.give_out(names.output, sink);
     Ok(served)
 }

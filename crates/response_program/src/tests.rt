@@ -68,6 +68,23 @@ const fn ended(base: &'static [&'static str], input: &'static str, output: &'sta
     }
 }
 
+/// A run that ends well with entries.
+const fn changed(
+    input: &'static str,
+    output: &'static str,
+    journal: &'static str,
+    console: &'static str,
+) -> Case {
+    Case {
+        base: &[PART, "DEMAND,A,D1,2025-03-05,50\n"],
+        input,
+        status: 0,
+        console,
+        journal,
+        output,
+    }
+}
+
 /// A run whose base is refused.
 const fn refused(base: &'static [&'static str], console: &'static str) -> Case {
     Case {
@@ -128,13 +145,41 @@ fn what_is_wrong_is_told(rt: HostRuntime) -> Result<(), Fail> {
     let cases = [
         ended(
             &[PART],
-            "PLAN Baseline Q\nPLAN X A\nPLAN Baseline\nFOO\nPOINT\n",
+            "PLAN Baseline Q\nPLAN X A\nPLAN Baseline\nFOO\nTREE\n",
             "NO @0 no-part Q\nNO @0 no-scenario X\nBAD field 2 shape\nBAD word\nBAD word\n",
         ),
         refused(&[PART, "STOCK,A,31\n"], "base twice 4\n"),
         refused(&[], "base no-plan\n"),
         refused(&["STOCK,A,x\n"], "base row 1 field 2 shape\n"),
         refused(&["BILL,A,B,1\n"], "base row 1 field 0 shape\n"),
+    ];
+    for case in &cases {
+        assert!(rt; comes_to(rt.alloc(), case)?);
+    }
+    Ok(())
+}
+
+#[test]
+fn changes_are_journaled(rt: HostRuntime) -> Result<(), Fail> {
+    let cases = [
+        changed(
+            "PUT Baseline STOCK A 60\nPLAN Baseline A\nDEL Baseline DEMAND A D1\nPLAN Baseline A\nDEL Baseline DEMAND A D1\nPUT X STOCK A 1\nPOINT\nQUIT\nPOINT\n",
+            "OK @1\nOK @1 1\n2025-03-05 50 0 0 10 0 0\nOK @2\nOK @2 0\nNO @2 no-record DEMAND A D1\nNO @2 no-scenario X\nOK @2\nOK @2\n",
+            "plan-journal 2\n1 1 1 guest PUT Baseline STOCK A 60\n2 1 3 guest DEL Baseline DEMAND A D1\n",
+            "entries 2 netted 0 reused 0 dropped 0\n",
+        ),
+        changed(
+            "\nHELLO ann\n\nPUT Baseline PART B 0 FOQ:7 0 -\nHELLO bob\nPUT Baseline DEMAND B D1 2025-03-04 8\nPLAN Baseline B\n",
+            "OK @0\nOK @1\nOK @1\nOK @2\nOK @2 1\n2025-03-04 8 0 14 6 14 0\n",
+            "plan-journal 2\n1 1 4 ann PUT Baseline PART B 0 FOQ:7 0 -\n2 1 6 bob PUT Baseline DEMAND B D1 2025-03-04 8\n",
+            "entries 2 netted 0 reused 0 dropped 0\n",
+        ),
+        changed(
+            "PUT Baseline STOCK A 1000000001\nPUT Baseline DEMAND A D2 2025-02-29 1\nPUT Baseline STOCK A\nPUT Baseline BILL A B 1\nDEL Baseline PLAN\nQUIT x\n",
+            "BAD field 4 range\nBAD field 5 date\nBAD field 4 shape\nBAD field 2 shape\nBAD field 2 shape\nBAD field 1 shape\n",
+            "plan-journal 2\n",
+            ENDED,
+        ),
     ];
     for case in &cases {
         assert!(rt; comes_to(rt.alloc(), case)?);
@@ -182,6 +227,8 @@ fn files_that_fail_are_named(rt: HostRuntime) -> Result<(), Fail> {
         let words = texts(alloc, &["run", "base", "journal", "in", "out"])?;
         assert_eq!(rt; response(alloc, words.as_slice(), &mut shelf), 4);
         assert_eq!(rt; shelf.held("-").unwrap_or(b""), console.as_bytes());
+        assert!(rt; shelf.held("journal").unwrap_or(b"").is_empty());
+        assert!(rt; shelf.held("out").unwrap_or(b"").is_empty());
     }
     Ok(())
 }
@@ -189,14 +236,17 @@ fn files_that_fail_are_named(rt: HostRuntime) -> Result<(), Fail> {
 #[test]
 fn devices_that_fail_are_named(rt: HostRuntime) -> Result<(), Fail> {
     let alloc = rt.alloc();
+    let one = "plan-journal 2\n1 1 1 guest PUT Baseline STOCK A 5\n";
     let cases = [
-        ("base", 5, "read base\n", ""),
-        ("in", 5, "read in\n", "plan-journal 2\n"),
-        ("out", 6, "write out\n", "plan-journal 2\n"),
-        ("journal", 6, "write journal\n", ""),
+        ("base", 1, 5, "read base\n", ""),
+        ("in", 1, 5, "read in\n", "plan-journal 2\n"),
+        ("in", 2, 5, "read in\n", one),
+        ("out", 1, 6, "write out\n", one),
+        ("journal", 1, 6, "write journal\n", ""),
     ];
-    for (name, status, console, journal) in cases {
-        let mut shelf = shelf_with(alloc, &[], &[(name, 1)], &[PART], "PLAN Baseline Q\n")?;
+    let input = "PUT Baseline STOCK A 5\n";
+    for (name, call, status, console, journal) in cases {
+        let mut shelf = shelf_with(alloc, &[], &[(name, call)], &[PART], input)?;
         let words = texts(alloc, &["run", "base", "journal", "in", "out"])?;
         assert_eq!(rt; response(alloc, words.as_slice(), &mut shelf), status);
         assert_eq!(rt; shelf.held("-").unwrap_or(b""), console.as_bytes());

@@ -16,16 +16,19 @@ use Rattle.plan_schema.specs.Day.{day_text, date_of}
 use Rattle.row_text.specs.Spelling.{row_text, row_fields, key_fields, record_fields, lot_text, span_fields, calendar_text}
 use Rattle.scenario_rules.specs.World.{root}
 use Rattle.command_words.specs.declared.command.Command.TheVariants as commands
+use Rattle.command_words.specs.declared.reply.Reply.{Reply}
 use Rattle.command_words.specs.declared.reply.Reply.TheVariants as replies
 use Rattle.command_words.specs.declared.reply.Bad.TheVariants as bads
 use Rattle.command_words.specs.Words.{words_of}
-use Rattle.command_words.specs.Commands.{command_of, command_of_verb, plan_of, two_names}
+use Rattle.command_words.specs.Commands.{command_of, command_of_verb, hello_of, point_of, put_of, del_of, plan_of, quit_of, only_name, two_names}
 use Rattle.command_words.specs.Verbs.{verb_of}
 use Rattle.plan_schema.specs.declared.fault.Rule.TheVariants as rules
 use Rattle.plan_schema.specs.Name.{is_name}
 use Rattle.byte_lines.specs.Lines.{lines_of, text_of_line}
-use Rattle.row_text.specs.Row.{name_at, name_in, text_at, end_at}
-use Rattle.session_rules.specs.Requests.{Asks, IsBad, requests_of, requests_within, reading, is_served, guest}
+use Rattle.row_text.specs.Row.{name_at, name_in, text_at, end_at, row_of, row_of_table, bill_of, key_of, key_of_table}
+use Rattle.row_text.specs.Row as row_words
+use Rattle.session_rules.specs.Requests.{Makes, Asks, IsBad, Request, requests_of, requests_within, reading, guest}
+use Rattle.session_rules.specs.Runs.{accepted_entries, accepted_points}
 use Rattle.session_rules.specs.Answers.{answer, change_answer}
 
 abbrev a : Name
@@ -248,5 +251,38 @@ an_input_is_read : requests_of (codes "PLAN Baseline A\r\n \n\nFOO\nPLAN Baselin
     ∷ record { line = 5; wish = IsBad (bads.Field (record { field = 2; rule = rules.Shape })) }
     ∷ record { line = 6; wish = Asks (commands.Plan (codes "x") (codes "y")) }
     ∷ []
-unfolding requests_within reading is_served words_of command_of command_of_verb verb_of plan_of two_names lines_of text_of_line name_at text_at end_at name_in is_name
+unfolding requests_within reading words_of command_of command_of_verb verb_of plan_of two_names lines_of text_of_line name_at text_at end_at name_in is_name
 an_input_is_read = refl
+
+-- a session changes the root and ends with QUIT; what stands behind is no request
+changes_are_read : requests_of (codes "HELLO ann\nDEL Baseline DEMAND A D1\nPOINT\nQUIT\nPOINT\n")
+    ≡ record { line = 1; wish = Asks (commands.Hello ann) }
+    ∷ record { line = 2; wish = Makes (changes.Del root (keys.Demand a (codes "D1"))) }
+    ∷ record { line = 3; wish = Asks commands.Point }
+    ∷ record { line = 4; wish = Asks commands.Quit }
+    ∷ []
+unfolding requests_within reading words_of command_of command_of_verb verb_of hello_of only_name del_of point_of quit_of key_of key_of_table row_words.two_names lines_of text_of_line name_at text_at end_at name_in is_name
+changes_are_read = refl
+
+-- the table word of a bill is unknown so far, and what stands before it is looked at first
+bills_are_closed : requests_of (codes "PUT Baseline BILL\nDEL - BILL A B\nPLAN BILL BILL\n")
+    ≡ record { line = 1; wish = IsBad (bads.Field (record { field = 2; rule = rules.Shape })) }
+    ∷ record { line = 2; wish = IsBad (bads.Field (record { field = 1; rule = rules.Shape })) }
+    ∷ record { line = 3; wish = Asks (commands.Plan (codes "BILL") (codes "BILL")) }
+    ∷ []
+unfolding requests_within reading words_of command_of command_of_verb verb_of put_of del_of plan_of two_names row_of row_of_table bill_of lines_of text_of_line name_at text_at end_at name_in is_name
+bills_are_closed = refl
+
+-- entries and points of accepted changes -------------------------------------------------------------------------------------------------
+
+abbrev two_asked : List Request
+two_asked = record { line = 1; wish = Asks (commands.Hello ann) } ∷ record { line = 2; wish = Makes (changes.Drop x) } ∷ record { line = 5; wish = Makes (changes.Drop y) } ∷ []
+
+abbrev two_answered : List Reply
+two_answered = replies.Ok 0 ∷ replies.No 0 (refusals.NoScenario x) ∷ replies.Ok 1 ∷ []
+
+the_accepted_one_is_entered : accepted_entries 3 guest two_asked two_answered ≡ record { session = 3; line = 5; user = ann; change = changes.Drop y } ∷ []
+the_accepted_one_is_entered = refl
+
+and_its_point_is_its_number : accepted_points two_asked two_answered ≡ 1 ∷ []
+and_its_point_is_its_number = refl

@@ -1,5 +1,5 @@
 -- What holds of legal sessions.
-use Rattle.std.specs.Prelude.{◌≤◌, ℕ, List, [], ◌∷◌, ◌++◌, fold}
+use Rattle.std.specs.Prelude.{◌≤◌, ℕ, Bool, length, List, [], ◌∷◌, ◌++◌, fold}
 use Rattle.plan_schema.specs.declared.name.Name.{Name}
 use Rattle.plan_schema.specs.declared.change.Entry.{Entry}
 use Rattle.plan_schema.specs.Contents.{Contents}
@@ -16,12 +16,22 @@ last_user user requests = fold (λ u request. user_after u request.wish) user re
 
 -- legal replies, and then a reply to one more request, are legal
 abbrev pub RepliesGrow : Type 0
-RepliesGrow = (base : Contents) (history : List Entry) (session floor last : ℕ) (user : Name) (requests : List Request) (given : List Reply) (request : Request) (reply : Reply)
-    → AreReplies base history session floor last user requests given
-    → IsReply base history session floor (last_point last given) (last_user user requests) request reply
-    → AreReplies base history session floor last user (requests ++ request ∷ []) (given ++ reply ∷ [])
+RepliesGrow = (may_change : Bool) (base : Contents) (history : List Entry) (session floor last : ℕ) (user : Name) (requests : List Request) (given : List Reply) (request : Request) (reply : Reply)
+    → AreReplies may_change base history session floor last user requests given
+    → IsReply may_change base history session floor (last_point last given) (last_user user requests) request reply
+    → AreReplies may_change base history session floor last user (requests ++ request ∷ []) (given ++ reply ∷ [])
 
 -- points don't go back within a session
 abbrev pub PointsDontFall : Type 0
-PointsDontFall = (base : Contents) (history : List Entry) (session floor last : ℕ) (user : Name) (requests : List Request) (given : List Reply)
-    → AreReplies base history session floor last user requests given → last ≤ last_point last given
+PointsDontFall = (may_change : Bool) (base : Contents) (history : List Entry) (session floor last : ℕ) (user : Name) (requests : List Request) (given : List Reply)
+    → AreReplies may_change base history session floor last user requests given → last ≤ last_point last given
+
+-- nor is a point past the history
+abbrev pub PointsAreWithin : Type 0
+PointsAreWithin = (may_change : Bool) (base : Contents) (history : List Entry) (session floor last : ℕ) (user : Name) (requests : List Request) (given : List Reply)
+    → AreReplies may_change base history session floor last user requests given → last ≤ length history → last_point last given ≤ length history
+
+-- replies that were legal stay so, whatever entries follow
+abbrev pub RepliesStay : Type 0
+RepliesStay = (may_change : Bool) (base : Contents) (history more : List Entry) (session floor last : ℕ) (user : Name) (requests : List Request) (given : List Reply)
+    → AreReplies may_change base history session floor last user requests given → AreReplies may_change base (history ++ more) session floor last user requests given

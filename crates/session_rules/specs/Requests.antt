@@ -1,6 +1,6 @@
 -- The requests of an input. A request is a line that isn't blank, or a LOAD with the rows of the lines that follow it.
-use Rattle.std.specs.Prelude.{ℕ, zero, suc, Bool, true, false, not, nat_eq, nat_lt, List, [], ◌∷◌, length, take, drop, map, filter, Option, Some, None, Result, Ok, Err, if◌then◌else◌, codes}
-use Rattle.std.specs.List.{list_any, filter_map, enumerate_from}
+use Rattle.std.specs.Prelude.{ℕ, zero, suc, Bool, true, false, not, ◌&&◌, nat_eq, nat_lt, List, [], ◌∷◌, length, take, drop, map, filter, Option, Some, None, Result, Ok, Err, if◌then◌else◌, codes}
+use Rattle.std.specs.List.{list_any, slice_get, filter_map, enumerate_from}
 use Rattle.std.specs.Result.{result_ok}
 use Rattle.std.specs.Cmp.Lexicographic.{pointwise}
 use Rattle.plan_schema.specs.declared.name.Name.{Name}
@@ -8,8 +8,9 @@ use Rattle.plan_schema.specs.declared.key.Key.{Key}
 use Rattle.plan_schema.specs.declared.key.Record.{Record}
 use Rattle.plan_schema.specs.declared.change.Change.{Change}
 use Rattle.plan_schema.specs.declared.change.Change.TheVariants as changes
+use Rattle.plan_schema.specs.declared.fault.Rule.TheVariants.{Shape}
 use Rattle.plan_schema.specs.declared.fault.FieldFault.{FieldFault}
-use Rattle.row_text.specs.Open.{open_row_of}
+use Rattle.row_text.specs.Open.{is_closed_word, open_row_of}
 use Rattle.byte_lines.specs.Lines.{lines_of}
 use Rattle.command_words.specs.Words.{words_of, is_blank}
 use Rattle.command_words.specs.Commands.{command_of}
@@ -36,23 +37,38 @@ request_lines input = filter (λ line. not (is_blank_line line)) (enumerate_from
 
 -- the command words that the program serves so far; every other first word counts as no command
 abbrev pub served_words : List (List ℕ)
-served_words = codes "PLAN" ∷ []
+served_words = codes "HELLO" ∷ codes "POINT" ∷ codes "PUT" ∷ codes "DEL" ∷ codes "PLAN" ∷ codes "QUIT" ∷ []
 
-abbrev pub is_served_word : List ℕ → Bool
-is_served_word word = list_any (λ served. pointwise nat_eq word served) served_words
+abbrev pub is_one_of : List (List ℕ) → List ℕ → Bool
+is_one_of words word = list_any (λ other. pointwise nat_eq word other) words
 
 -- whether the program serves the command that these words begin with
-abbrev pub begins_served : List (List ℕ) → Bool
-begins_served [] = false
-begins_served (word ∷ words) = is_served_word word
+abbrev pub is_served : List (List ℕ) → Bool
+is_served [] = false
+is_served (word ∷ words) = is_one_of served_words word
 
-unfoldable pub is_served : List ℕ → Bool
-is_served text = begins_served (words_of text)
+-- bills aren't served yet: the table word of a PUT or a DEL that is about one counts as unknown
+abbrev pub is_closed : List (List ℕ) → Bool
+is_closed [] = false
+is_closed (word ∷ words) = is_one_of (codes "PUT" ∷ codes "DEL" ∷ []) word && is_closed_word (slice_get words 1)
+
+abbrev pub table_fault : FieldFault
+table_fault = record { field = 2; rule = Shape }
+
+-- what stands before an unknown table word is looked at first
+abbrev pub closed_fault : Result Command Bad → FieldFault
+closed_fault (Err (bads.Field fault)) = if nat_lt fault.field 2 then fault else table_fault
+closed_fault read = table_fault
+
+-- what these words are read as, where this is what the grammar makes of them
+abbrev pub open_reading : List (List ℕ) → Result Command Bad → Result Command Bad
+open_reading words read =
+    if is_served words then (if is_closed words then Err (bads.Field (closed_fault read)) else read) else Err bads.Word
 
 -- what a line is read as: a command, or why it is none
 unfoldable pub reading : Line → Result Command Bad
 reading (number, None) = Err bads.Long
-reading (number, Some text) = if is_served text then command_of text else Err bads.Word
+reading (number, Some text) = open_reading (words_of text) (command_of text)
 
 -- requests ---------------------------------------------------------------------------------------------------------------
 

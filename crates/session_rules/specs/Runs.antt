@@ -1,12 +1,13 @@
 -- Legal runs: sessions in rounds over one history.
-use Rattle.std.specs.Prelude.{◌≡◌, ℕ, ◌+◌, ◌≤◌, ◌&&◌, nat_le, nat_lt, ◌==◌, List, [], ◌∷◌, ◌++◌, length, count_by}
+use Rattle.std.specs.Prelude.{◌≡◌, ℕ, true, ◌+◌, ◌≤◌, ◌&&◌, nat_le, nat_lt, ◌==◌, List, [], ◌∷◌, ◌++◌, length, count_by}
 use Rattle.std.specs.List.{flat_map, AllByRecursion}
+use Rattle.plan_schema.specs.declared.name.Name.{Name}
 use Rattle.plan_schema.specs.declared.change.Entry.{Entry}
 use Rattle.plan_schema.specs.Contents.{Contents}
 use Rattle.command_words.specs.declared.reply.Reply.{Reply}
 use Rattle.command_words.specs.declared.reply.Reply.TheVariants as replies
 use Rattle.scenario_rules.specs.Journal.{IsLegal}
-use Rattle.session_rules.specs.Requests.{Wish, Makes, Request, requests_of}
+use Rattle.session_rules.specs.Requests.{Wish, Makes, Request, requests_of, user_after}
 use Rattle.session_rules.specs.Sessions.{IsSession, point_after}
 
 -- what one session was sent and wrote, and its replies
@@ -28,6 +29,17 @@ abbrev pub accepted_points : List Request → List Reply → List ℕ
 accepted_points (request ∷ requests) (reply ∷ more) = accepted_point request.wish reply ++ accepted_points requests more
 accepted_points requests more = []
 
+-- the entry that an accepted change becomes
+abbrev pub accepted_entry : ℕ → ℕ → Name → Wish → Reply → List Entry
+accepted_entry session line user (Makes change) (replies.Ok point) = record { session = session; line = line; user = user; change = change } ∷ []
+accepted_entry session line user wish reply = []
+
+-- the entries of a session's accepted changes, in order; `user` speaks first
+abbrev pub accepted_entries : ℕ → Name → List Request → List Reply → List Entry
+accepted_entries session user (request ∷ requests) (reply ∷ more) =
+    accepted_entry session request.line user request.wish reply ++ accepted_entries session (user_after user request.wish) requests more
+accepted_entries session user requests more = []
+
 -- the points of the changes that were accepted at some desks, and in some rounds
 abbrev pub accepted_at : List Desk → List ℕ
 accepted_at desks = flat_map (λ desk. accepted_points (requests_of desk.input) desk.replies_given) desks
@@ -38,7 +50,7 @@ accepted_in rounds = flat_map accepted_at rounds
 module _ (base : Contents) (history : List Entry) where
   -- a session at a desk is legal, and prints no point above the ceiling
   pub record IsDesk (session floor ceiling : ℕ) (desk : Desk) : Type 0 where
-    pub legal : IsSession base history session floor (requests_of desk.input) desk.replies_given desk.output
+    pub legal : IsSession true base history session floor (requests_of desk.input) desk.replies_given desk.output
     pub below : AllByRecursion (λ reply. point_after 0 reply ≤ ceiling) desk.replies_given
 
   -- the desks of a round, numbered from `session` on

@@ -3,7 +3,9 @@ use Rattle.std.specs.Prelude.{◌≡◌, ℕ, ◌-◌, ◌<◌, ◌≤◌, Bool,
 use Rattle.std.specs.List.{flat_map}
 use Rattle.plan_schema.specs.declared.name.Name.{Name}
 use Rattle.plan_schema.specs.declared.change.Change.{Change}
+use Rattle.plan_schema.specs.declared.change.Change.TheVariants as changes
 use Rattle.plan_schema.specs.declared.change.Entry.{Entry}
+use Rattle.plan_schema.specs.declared.refusal.Refusal.TheVariants as refusals
 use Rattle.plan_schema.specs.Contents.{Contents}
 use Rattle.command_words.specs.declared.command.Command.{Command}
 use Rattle.command_words.specs.declared.command.Command.TheVariants as commands
@@ -27,7 +29,12 @@ needs_no_memory commands.Point = true
 needs_no_memory commands.Quit = true
 needs_no_memory command = false
 
-module _ (base : Contents) (history : List Entry) (session floor : ℕ) where
+-- a change that may get no memory where nothing can be changed: a LOAD, whose rows are held before it is answered
+abbrev pub is_load : Change → Bool
+is_load (changes.Load scenario rows) = true
+is_load change = false
+
+module _ (may_change : Bool) (base : Contents) (history : List Entry) (session floor : ℕ) where
   -- entry number `point` stands above the floor, and is this change, made by this user in this line of the session
   pub record IsEntry (line : ℕ) (user : Name) (change : Change) (point : ℕ) : Type 0 where
     pub above : floor < point
@@ -57,6 +64,16 @@ module _ (base : Contents) (history : List Entry) (session floor : ℕ) where
     IsChangeReply line change (replies.Bad bad) = ⊥
     IsChangeReply line change replies.Mem = Unit {0}
 
+    -- where nothing can be changed, every change is told so
+    abbrev pub IsReadOnlyReply : Change → Reply → Type 0
+    IsReadOnlyReply change (replies.No point refusals.ReadOnly) = IsPoint last point
+    IsReadOnlyReply change replies.Mem = is_load change ≡ true
+    IsReadOnlyReply change reply = ⊥
+
+    abbrev pub IsMadeReply : Bool → ℕ → Change → Reply → Type 0
+    IsMadeReply true line change reply = IsChangeReply line change reply
+    IsMadeReply false line change reply = IsReadOnlyReply change reply
+
     -- another command gets its answer, or there was no memory for it
     abbrev pub IsCommandReply : Command → Reply → Type 0
     IsCommandReply command (replies.Ok point) = IsAnswer (λ h. answer base h user command) point (replies.Ok point)
@@ -67,7 +84,7 @@ module _ (base : Contents) (history : List Entry) (session floor : ℕ) where
 
     -- a reply to a request: one that isn't in the grammar is told why
     abbrev pub IsReplyTo : ℕ → Wish → Reply → Type 0
-    IsReplyTo line (Makes change) reply = IsChangeReply line change reply
+    IsReplyTo line (Makes change) reply = IsMadeReply may_change line change reply
     IsReplyTo line (Asks command) reply = IsCommandReply command reply
     IsReplyTo line (IsBad bad) reply = reply ≡ replies.Bad bad
 

@@ -3,4 +3,4 @@
 
 mod laws;
 
-pub use laws::{points_dont_fall, replies_grow};
+pub use laws::{points_are_within, points_dont_fall, replies_grow, replies_stay};

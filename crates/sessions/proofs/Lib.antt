@@ -3,8 +3,12 @@ pub mod Inputs
 pub mod Sums
 pub mod WorkingDays
 pub mod Alone
-pub mod AtStart
-pub mod PlanLines
-pub mod Simple
+pub mod AtEnd
+pub mod Entered
+pub mod Answering
+pub mod OneMore
 pub mod LineByLine
 pub mod Reading
+pub mod PlanLines
+pub mod NoBills
+pub mod Requested

@@ -2,7 +2,10 @@ pub mod Ends
 pub mod Orders
 pub mod Calendars
 pub mod Plans
+pub mod Opened
+pub mod Answered
 pub mod Serving
+pub mod Changes
 pub use Rattle.plan_schema.specs.Outside
 pub use Rattle.planning_rules.specs.Plan
 pub use Rattle.session_rules.specs.Sessions

@@ -1,15 +1,19 @@
-//! Sessions over one plan: requests are read line by line, and each gets its reply.
+//! Sessions over one book: requests are read line by line, and each gets its reply.
 #![tactic(auto)]
 
 mod answer;
 mod calendars;
+mod command_reply;
 mod orders;
+mod plan_reply;
 mod planning;
 mod records;
+mod request;
 mod serve;
+mod terms;
 
 pub use byte_lines::Served;
-pub use serve::serve_first;
+pub use serve::serve_alone;
 
 #[cfg(test)]
 mod tests;

@@ -7,7 +7,8 @@ use Rattle.response_program.specs.Views.{view}
 use Rattle.response_program.specs.Outcomes.{outcome_of, and_written, status_of, console_line}
 use Rattle.response_program.specs.Runs.{names_of, console}
 use Rattle.response_program.proofs.Chains.{opened, gave_out, both_fell, cause_later, cause_after, counted_rose}
-use Rattle.response_program.proofs.Overs.{written_done, written_long, written_refused, written_cause, written_told, written_cut}
+use Rattle.response_program.proofs.Desks.{kept_or_empty}
+use Rattle.response_program.proofs.Overs.{written_done, written_long, written_refused, written_of_base, written_opened, written_cause, written_told, written_cut}
 use Rattle.response_program.proofs.Headline.{still_done, still_short, held_tells}
 use Rattle.response_program.proofs.run.counted.Goals as goal
 
@@ -34,10 +35,14 @@ returns g c =
       cause = written_cause old new outcome console written (cause_later old late new outcome giving (cause_after old mid late outcome making c.run-ending.ensures.cause)) failed;
       others = λ name journal output other. c.give_out.ensures.others name other ∙ c.run-ending.ensures.others name journal output ∙ c.make_out.ensures.others name other;
       refused = λ fault is base base_is. c.run-ending.ensures.refused fault (written_refused outcome console written fault is) base (c.make_out.ensures.others names.base apart.base_console ∙ base_is);
-      kept = λ fault is name other. c.give_out.ensures.others name other ∙ c.run-ending.ensures.kept fault (written_refused outcome console written fault is) name ∙ c.make_out.ensures.others name other;
-      done = λ is tells base input base_is input_is.
-          still_done mid old late new names base input (c.give_out.ensures.others names.journal apart.journal_console) (c.give_out.ensures.others names.output apart.output_console)
-          (c.run-ending.ensures.done (written_done outcome console written is).0 (held_tells old mid tells c.make_out.ensures.here c.make_out.ensures.others) base input
+      kept = λ is name other. c.give_out.ensures.others name other ∙ c.run-ending.ensures.kept (written_of_base names outcome console written is) name ∙ c.make_out.ensures.others name other;
+      opened_journal = λ failed is tells. kept_or_empty (c.make_out.ensures.others names.journal apart.journal_console) (c.give_out.ensures.others names.journal apart.journal_console)
+          (c.run-ending.ensures.opened_journal failed (written_opened outcome console written failed is) (held_tells old mid tells c.make_out.ensures.here c.make_out.ensures.others));
+      opened_output = λ failed is. kept_or_empty (c.make_out.ensures.others names.output apart.output_console) (c.give_out.ensures.others names.output apart.output_console)
+          (c.run-ending.ensures.opened_output failed (written_opened outcome console written failed is));
+      done = λ number is tells base input base_is input_is.
+          still_done mid old late new names base input number (c.give_out.ensures.others names.journal apart.journal_console) (c.give_out.ensures.others names.output apart.output_console)
+          (c.run-ending.ensures.done number (written_done outcome console written number is).0 (held_tells old mid tells c.make_out.ensures.here c.make_out.ensures.others) base input
           (c.make_out.ensures.others names.base apart.base_console ∙ base_is) (c.make_out.ensures.others names.input apart.input_console ∙ input_is));
       limit = λ is tells base input base_is input_is.
           c.run-ending.ensures.limit (written_long outcome console written is) (held_tells old mid tells c.make_out.ensures.here c.make_out.ensures.others) base input

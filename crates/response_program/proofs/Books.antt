@@ -1,7 +1,5 @@
 -- The book of a run, which begins without entries.
-use Rattle.std.proofs.Common.{◌≡◌, ℕ, List, [], ◌∷◌, Option, Some, true, refl, sym, ap, subst, ◌∙◌}
-use Rattle.plan_schema.specs.declared.change.Entry.{Entry}
-use Rattle.plan_schema.specs.Contents.{Contents}
+use Rattle.std.proofs.Common.{◌≡◌, ℕ, List, [], Option, true, refl, sym, ap, subst}
 use Rattle.byte_lines.specs.declared.rounds.Served.{Served}
 use Rattle.plan_book.specs.declared.ground.Ground.{Ground}
 use Rattle.plan_book.specs.History.{history, story_of}

@@ -1,9 +1,8 @@
 -- Steps of a shelf one after the other.
-use Rattle.std.proofs.Common.{◌≡◌, ◌≢◌, ℕ, ◌+◌, ◌≤◌, min, List, ◌++◌, Bool, true, false, nat_eq, Option, Some, None, Result, Ok, Err, refl, sym, ap, subst, ◌∙◌, arith}
-use Rattle.std.specs.Prelude.{◌^◌, ◌-◌}
+use Rattle.std.proofs.Common.{◌≡◌, ◌≢◌, ℕ, ◌≤◌, List, ◌++◌, true, false, nat_eq, Option, Result, Ok, refl, sym, subst, arith}
 use Rattle.std.specs.Cmp.Lexicographic.{pointwise, same_text, other_text}
 use Rattle.plan_schema.specs.declared.outside.ShelfFault.{ShelfFault}
-use Rattle.plan_schema.specs.Outside.{Wrote, Rose, GrewBy, OpenCause, Counted, Stays}
+use Rattle.plan_schema.specs.Outside.{Wrote, Rose, OpenCause, Counted, Stays}
 use Rattle.plan_schema.specs.declared.outside.SinkFault.{SinkFault}
 use Rattle.plan_schema.proofs.Writes.{rose_later, rose_after, wrote_then}
 use Rattle.response_program.specs.Views.{View, NoneFell}

@@ -1,19 +1,14 @@
 -- The session of a run, from the parts of the shelf that it takes and gives back.
-use Rattle.std.proofs.Common.{◌≡◌, ◌≢◌, ℕ, ◌≤◌, List, [], Option, Some, None, Result, Ok, Err, true, sym, ap, subst, ◌∙◌, arith, inl, inr}
+use Rattle.std.proofs.Common.{◌≡◌, ℕ, ◌≤◌, List, [], Option, Some, Result, Ok, Err, sym, subst, ◌∙◌, arith, inl, inr}
 use Rattle.std.specs.Prelude.{IsSome, IfOk, IfErr}
 use Rattle.plan_schema.specs.declared.change.Entry.{Entry}
 use Rattle.plan_schema.specs.Contents.{Contents}
-use Rattle.plan_schema.specs.Outside.{Rose, OpenCause, Counted, Stays, StaysBut, IsKeptOrEmpty}
-use Rattle.plan_schema.specs.declared.outside.ShelfFault.{ShelfFault}
+use Rattle.plan_schema.specs.Outside.{Rose, Counted, Stays, IsKeptOrEmpty}
 use Rattle.byte_lines.specs.declared.rounds.Served.{Served}
-use Rattle.byte_lines.specs.declared.rounds.Served.TheVariants as ends
-use Rattle.sessions.specs.Plans.{has_no_bills}
 use Rattle.sessions.specs.Serving.{Serves}
-use Rattle.response_program.specs.declared.ending.Ending.{Ending}
 use Rattle.response_program.specs.Views.{View, NoneFell}
-use Rattle.response_program.specs.Outcomes.{outcome_of, HasCause}
-use Rattle.response_program.specs.Runs.{Names, only_session, HasServed, HasServedDesk, HasRunInput, HasRunDesk, IsOpening}
-use Rattle.response_program.proofs.Chains.{opened, gave_in, gave_out, both_fell, cause_later, cause_after, counted_rose, rose_past}
+use Rattle.response_program.specs.Runs.{Names, only_session, HasServed, HasRunInput}
+use Rattle.response_program.proofs.Chains.{counted_rose}
 
 -- over what a source that was opened did, the shelf tells the same of its name
 module _ {S : Type 0} (left : S → Option (List ℕ)) (faults : S → ℕ) (source source_then : S) (old mid late new : View) (names : Names) (contents : Contents) (entries : List Entry) where

@@ -1,5 +1,5 @@
 -- A run of one session is legal.
-use Rattle.std.proofs.Common.{◌≡◌, ◌≢◌, ℕ, zero, suc, ◌+◌, ◌<◌, ◌≤◌, cond, inl, inr, List, [], ◌∷◌, ◌++◌, length, append-nil, Option, Some, None, Result, Ok, refl, sym, ap, subst, ◌∙◌, arith}
+use Rattle.std.proofs.Common.{◌≡◌, ℕ, zero, suc, ◌+◌, ◌<◌, ◌≤◌, cond, inl, inr, List, [], ◌∷◌, ◌++◌, length, append-nil, Option, Some, Ok, refl, sym, ap, subst, ◌∙◌, arith}
 use Rattle.std.specs.Prelude.{IsSome, true, false, Bool, ◌&&◌, ◌==◌, nat_eq, nat_le, nat_lt, filter, count_by}
 use Rattle.std.proofs.lemmas.Bool.Decides.{nat_tests}
 use Rattle.std.proofs.lemmas.List.Sums.{length-filter}
@@ -7,7 +7,7 @@ use Rattle.std.specs.List.{AllByRecursion, flat_map, range_with_len}
 use Rattle.std.specs.Cmp.Lexicographic.{pointwise, same_text, other_text}
 use Rattle.plan_schema.specs.declared.name.Name.{Name}
 use Rattle.plan_schema.specs.Contents.{Contents}
-use Rattle.plan_schema.specs.Outside.{extended, IsKeptOrEmpty, StaysBut}
+use Rattle.plan_schema.specs.Outside.{IsKeptOrEmpty, StaysBut}
 use Rattle.command_words.specs.declared.reply.Reply.{Reply}
 use Rattle.command_words.specs.declared.reply.Reply.TheVariants as replies
 use Rattle.command_words.specs.Replies.{reply_text}
@@ -16,7 +16,7 @@ use Rattle.plan_schema.specs.declared.change.Entry.{Entry}
 use Rattle.plan_journal.specs.Entries.{journal_text}
 use Rattle.session_rules.specs.Requests.{Request, Wish, Makes, Asks, IsBad, user_after, guest, requests_of}
 use Rattle.session_rules.specs.Sessions.{AreReplies, point_after}
-use Rattle.session_rules.specs.Runs.{Desk, IsDesk, IsRun, entries_of, accepted_entry, accepted_entries, accepted_points}
+use Rattle.session_rules.specs.Runs.{Desk, IsDesk, entries_of, accepted_entry, accepted_entries, accepted_points}
 use Rattle.session_rules.proofs.SessionLaws.{are_within}
 use Rattle.plan_import.specs.BaseFile.{base_of}
 use Rattle.sessions.specs.Serving.{IsServed, IsServedShort}

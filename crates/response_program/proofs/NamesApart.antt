@@ -1,10 +1,10 @@
 -- The names of a run's files differ from each other and from the console's.
-use Rattle.std.proofs.Common.{◌≡◌, ◌≢◌, ℕ, List, Bool, true, false, not, ◌&&◌, cond, nat_eq, ◌==◌, refl, sym, ap, subst, ◌∙◌}
+use Rattle.std.proofs.Common.{◌≡◌, ◌≢◌, ℕ, List, Bool, true, false, not, ◌&&◌, cond, ◌==◌, sym, ap, ◌∙◌}
 use Rattle.std.specs.Prelude.{get_or, length, codes, []}
-use Rattle.std.specs.Cmp.Lexicographic.{pointwise, bytes_decides}
+use Rattle.std.specs.Cmp.Lexicographic.{bytes_decides}
 use Rattle.std.proofs.lemmas.Bool.{and_parts}
 use Rattle.response_program.specs.Words.{same_word, is_file, names_differ, is_run_of, is_run}
-use Rattle.response_program.specs.Runs.{Names, Differ, console}
+use Rattle.response_program.specs.Runs.{Differ, console}
 use Rattle.response_program.specs.Responses.{names_in}
 
 apart : (a b : List ℕ) → not (same_word a b) ≡ true → a ≢ b

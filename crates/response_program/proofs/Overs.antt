@@ -1,9 +1,9 @@
 -- A run over contents, from its desk and its journal.
-use Rattle.std.proofs.Common.{◌≡◌, ◌≢◌, ℕ, List, [], ◌∷◌, ◌++◌, length, Option, Some, None, Result, Ok, Err, true, refl, sym, ap, subst, ◌∙◌}
-use Rattle.std.specs.Prelude.{IsSome, IfOk, IfErr, OnOk}
+use Rattle.std.proofs.Common.{◌≡◌, ◌≢◌, ℕ, List, [], length, Some, Result, Ok, Err, true, refl, sym, subst}
+use Rattle.std.specs.Prelude.{IsSome}
 use Rattle.plan_schema.specs.declared.change.Entry.{Entry}
 use Rattle.plan_schema.specs.Contents.{Contents}
-use Rattle.plan_schema.specs.Outside.{Rose, extended}
+use Rattle.plan_schema.specs.Outside.{Rose}
 use Rattle.plan_schema.specs.declared.outside.SinkFault.{SinkFault}
 use Rattle.plan_schema.specs.declared.outside.SinkFault.TheVariants as sinks
 use Rattle.byte_lines.specs.declared.rounds.Served.{Served}
@@ -11,9 +11,9 @@ use Rattle.byte_lines.specs.declared.rounds.Served.TheVariants as ends
 use Rattle.plan_import.specs.declared.ImportFault.{ImportFault}
 use Rattle.plan_import.specs.declared.ImportFault.TheVariants as imports
 use Rattle.sessions.specs.Plans.{has_no_bills}
-use Rattle.sessions.specs.Serving.{Serves, IsServed, IsServedShort, is_past_limit}
-use Rattle.response_program.specs.Views.{View, NoneFell}
-use Rattle.response_program.specs.Outcomes.{Outcome, Done, NoMemory, Refused, NotOpened, NotRead, NotWritten, TooLong, HasCause, of_import, of_served, first_of_two, and_written}
+use Rattle.sessions.specs.Serving.{IsServed, IsServedShort, is_past_limit}
+use Rattle.response_program.specs.Views.{View}
+use Rattle.response_program.specs.Outcomes.{Outcome, Done, NoMemory, Refused, NotOpened, NotRead, NotWritten, TooLong, HasCause, of_import, of_served, and_written}
 use Rattle.response_program.specs.Runs.{Names, only_session, HasRunInput, IsOpening, IsOfBase, IsCut}
 
 -- what a desk came to

@@ -1,23 +1,13 @@
 -- A base that was read has no bills: their rows aren't accepted yet.
-use Rattle.std.proofs.Common.{◌≡◌, ℕ, ◌+◌, List, [], ◌∷◌, Bool, true, false, not, ◌&&◌, cond, nat_eq, nat_lt, length, Option, Some, None, Result, Ok, Err, refl, sym, ap, subst, ◌∙◌}
-use Rattle.std.specs.Prelude.{IfOk, codes, is_some}
-use Rattle.std.specs.List.{slice_get}
-use Rattle.std.specs.BTreeMap.{insert_entry}
-use Rattle.std.specs.Ordering.{match_ordering}
-use Rattle.std.specs.declared.cmp.Ordering.{Ordering}
-use Rattle.std.specs.declared.cmp.Ordering.TheVariants.{Less, Equal, Greater}
-use Rattle.std.specs.Cmp.Lexicographic.{pointwise}
-use Rattle.std.proofs.lemmas.Bool.{and_parts, and_from}
+use Rattle.std.proofs.Common.{◌≡◌, ℕ, ◌+◌, List, [], ◌∷◌, Bool, true, false, cond, nat_lt, length, Result, Ok, Err, refl, subst}
+use Rattle.std.specs.Prelude.{IfOk, is_some}
 use Rattle.plan_schema.specs.declared.fault.FieldFault.{FieldFault}
 use Rattle.plan_schema.specs.declared.key.Key.{Key}
-use Rattle.plan_schema.specs.declared.key.Key.TheVariants as keys
 use Rattle.plan_schema.specs.declared.key.Record.{Record}
-use Rattle.plan_schema.specs.declared.key.Record.TheVariants as records
-use Rattle.plan_schema.specs.Key.{key_cmp}
 use Rattle.plan_schema.specs.Contents.{Contents, with_record, record_at}
 use Rattle.plan_schema.specs.Base.{part_count, part_limit, record_limit, has_horizon}
-use Rattle.row_text.specs.Row.{◌>>=◌, text_at, text_of_field, name_at, day_at, days_at, number_at, end_at, week_at, lot_at, calendar_at, plan_of, cal_of, holiday_of, part_of, stock_of, demand_of, receipt_of, bill_of, row_of_table, row_of}
-use Rattle.row_text.specs.Open.{is_closed_word, open_row_of}
+use Rattle.row_text.specs.Row.{◌>>=◌}
+use Rattle.row_text.specs.Open.{open_row_of}
 use Rattle.plan_import.specs.declared.ImportFault.{ImportFault}
 use Rattle.plan_import.specs.BaseFile.{byte_limit, base_records, numbered, with_new, with_numbered, with_records, within_limits, base_of_records, base_of}
 use Rattle.sessions.specs.Plans.{has_no_bills}

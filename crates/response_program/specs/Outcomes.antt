@@ -1,7 +1,6 @@
 -- How a run comes out: its status, the console's line, and the cause of each fault.
-use Rattle.std.specs.Prelude.{◌≡◌, ◌≢◌, ℕ, List, [], ◌∷◌, ◌++◌, Result, Ok, Err, codes, decimal}
+use Rattle.std.specs.Prelude.{ℕ, List, [], ◌∷◌, Result, Ok, Err, codes, decimal}
 use Rattle.plan_schema.specs.Outside.{Rose}
-use Rattle.plan_schema.specs.declared.fault.FieldFault.{FieldFault}
 use Rattle.plan_schema.specs.declared.outside.ShelfFault.{ShelfFault}
 use Rattle.plan_schema.specs.declared.outside.ShelfFault.TheVariants as shelves
 use Rattle.plan_schema.specs.declared.outside.SinkFault.{SinkFault}

@@ -1,5 +1,5 @@
 -- What the program comes to: the promise that its users rely on.
-use Rattle.std.specs.Prelude.{◌≡◌, ◌≢◌, ℕ, true, List, [], Some, Err, get_or, codes}
+use Rattle.std.specs.Prelude.{◌≡◌, ◌≢◌, ℕ, List, [], Some, Err, get_or, codes}
 use Rattle.plan_import.specs.declared.ImportFault.{ImportFault}
 use Rattle.plan_import.specs.BaseFile.{base_of}
 use Rattle.plan_schema.specs.Outside.{Rose, IsKeptOrEmpty}

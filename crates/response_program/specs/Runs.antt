@@ -1,12 +1,11 @@
 -- What a run of one session comes to, as the shelf tells it.
-use Rattle.std.specs.Prelude.{◌≡◌, ◌≢◌, ◌⊎◌, ◌≤◌, ℕ, true, false, List, [], ◌∷◌, length, Option, Some, None, Result, Ok, Err, IsSome, IfOk, IfErr, codes}
+use Rattle.std.specs.Prelude.{◌≡◌, ◌≢◌, ◌⊎◌, ◌≤◌, ℕ, true, false, List, [], ◌∷◌, length, Option, Some, Result, Ok, Err, IsSome, IfOk, IfErr, codes}
 use Rattle.plan_schema.specs.Contents.{Contents}
 use Rattle.plan_schema.specs.Outside.{Rose, IsKeptOrEmpty}
 use Rattle.byte_lines.specs.declared.rounds.Served.{Served}
 use Rattle.byte_lines.specs.declared.rounds.Served.TheVariants as ends
 use Rattle.plan_import.specs.declared.ImportFault.{ImportFault}
 use Rattle.plan_import.specs.BaseFile.{base_of}
-use Rattle.command_words.specs.declared.reply.Reply.{Reply}
 use Rattle.session_rules.specs.Runs.{Desk, IsRun}
 use Rattle.sessions.specs.Plans.{has_no_bills}
 use Rattle.sessions.specs.Serving.{Setting, Serves, IsServed, IsServedShort, is_past_limit}
@@ -16,7 +15,7 @@ use Rattle.plan_schema.specs.declared.change.Entry.{Entry}
 use Rattle.response_program.specs.declared.ending.Ending.{Ending}
 use Rattle.response_program.specs.declared.words.RunWords.{RunWords}
 use Rattle.response_program.specs.Views.{View, NoneFell}
-use Rattle.response_program.specs.Outcomes.{Outcome, Done, NoMemory, Refused, NotOpened, NotRead, NotWritten, TooLong, outcome_of, status_of, console_line, HasCause}
+use Rattle.response_program.specs.Outcomes.{Outcome, Done, NoMemory, Refused, NotOpened, NotRead, NotWritten, TooLong, outcome_of, HasCause}
 
 -- the console's name
 abbrev pub console : List ℕ

@@ -1,6 +1,5 @@
 -- What a shelf tells: what it holds under each name, and its counts of faults.
 use Rattle.std.specs.Prelude.{ℕ, ◌≤◌, List, Option}
-use Rattle.plan_schema.specs.Outside.{Rose}
 
 pub record View : Type 0 where
   pub held : List ℕ → Option (List ℕ)

@@ -1,5 +1,5 @@
 -- What commands that change nothing are answered at the end of a history.
-use Rattle.std.proofs.Common.{◌≡◌, ℕ, ◌≤◌, List, [], ◌∷◌, length, take, Bool, true, false, cond, Option, Some, None, refl, sym, ap, subst, ◌∙◌, arith}
+use Rattle.std.proofs.Common.{◌≡◌, ℕ, ◌≤◌, List, [], ◌∷◌, length, Bool, true, false, cond, Option, Some, None, refl, sym, ap, subst, ◌∙◌, arith}
 use Rattle.std.specs.Prelude.{unwrap_or}
 use Rattle.std.proofs.Math.Seq.{take-length}
 use Rattle.plan_schema.specs.Key.{name_eq}
@@ -12,7 +12,7 @@ use Rattle.plan_schema.specs.Refusals.{first_of}
 use Rattle.planning_rules.specs.Days.{start_of, days_of}
 use Rattle.planning_rules.specs.Plan.{plan}
 use Rattle.planning_rules.specs.Refused.{plan_refusal}
-use Rattle.scenario_rules.specs.World.{World, root, root_with, contents_of, contents_in, begin_with}
+use Rattle.scenario_rules.specs.World.{root, root_with, contents_of, contents_in}
 use Rattle.scenario_rules.specs.Steps.{world_after}
 use Rattle.scenario_rules.specs.Refused.{access_refusal}
 use Rattle.netting.specs.Inputs.{told}
@@ -21,7 +21,7 @@ use Rattle.command_words.specs.declared.command.Command.TheVariants as commands
 use Rattle.command_words.specs.declared.reply.Reply.{Reply}
 use Rattle.command_words.specs.declared.reply.Reply.TheVariants as replies
 use Rattle.plan_book.specs.declared.ground.Ground.{Ground}
-use Rattle.plan_book.specs.History.{Story, history, world_of, point_of}
+use Rattle.plan_book.specs.History.{Story, history, world_of}
 use Rattle.plan_book.specs.declared.fault.BookFault.{BookFault}
 use Rattle.plan_book.specs.declared.fault.BookFault.TheVariants as faults
 use Rattle.plan_book.specs.Answers.{IsRead, IsBarred, IsReadFault}

@@ -1,6 +1,6 @@
 -- Changes of a session: what they are answered, and what they leave.
-use Rattle.std.proofs.Common.{◌≡◌, ℕ, zero, suc, ◌+◌, ◌-◌, ◌<◌, ◌≤◌, List, [], ◌∷◌, ◌++◌, length, take, map, Bool, true, false, not, cond, Option, Some, None, refl, sym, ap, subst, ◌∙◌, arith, append_assoc, append-nil, length-append, inl, inr}
-use Rattle.std.specs.Prelude.{◌⊎◌, fold, is_none, Result, Ok, Err}
+use Rattle.std.proofs.Common.{◌≡◌, ℕ, ◌+◌, ◌-◌, ◌≤◌, List, [], ◌∷◌, ◌++◌, length, take, Bool, true, false, not, cond, Option, Some, None, refl, sym, ap, subst, ◌∙◌, arith, append_assoc, append-nil, length-append, inl, inr}
+use Rattle.std.specs.Prelude.{◌⊎◌, fold, is_none, Err}
 use Rattle.std.specs.List.{slice_get, range_with_len}
 use Rattle.std.proofs.Math.Seq.{take-length}
 use Rattle.std.proofs.lemmas.List.{map-append}
@@ -25,7 +25,7 @@ use Rattle.plan_book.specs.declared.ground.Ground.{Ground}
 use Rattle.plan_book.specs.History.{Story, history, entries_in, point_of, entry_for}
 use Rattle.plan_book.specs.declared.fault.BookFault.{BookFault}
 use Rattle.plan_book.specs.declared.fault.BookFault.TheVariants as faults
-use Rattle.plan_book.specs.Answers.{IsChangeAnswer, refusal_of, told, IsAccepted, IsRefused, IsFailed, IsWanting}
+use Rattle.plan_book.specs.Answers.{IsChangeAnswer, told, IsAccepted, IsRefused, IsFailed}
 use Rattle.command_words.specs.declared.command.Command.{Command}
 use Rattle.session_rules.specs.Requests.{Wish, Makes, Asks, wish_of}
 use Rattle.sessions.specs.Answered.{IsAnswered}
@@ -33,9 +33,8 @@ use Rattle.session_rules.specs.Answers.{change_reply, change_answer}
 use Rattle.session_rules.specs.Sessions.{IsMadeReply, IsReplyTo}
 use Rattle.session_rules.specs.Runs.{accepted_entry, accepted_point}
 use Rattle.sessions.specs.declared.terms.Terms.{Terms}
-use Rattle.sessions.specs.Plans.{is_bill, has_no_bills}
-use Rattle.sessions.specs.Serving.{IsAlone, Answers}
-use Rattle.sessions.specs.Changes.{IsPlainChange, AnswersIn, IsReplied, setting_of}
+use Rattle.sessions.specs.Serving.{IsAlone}
+use Rattle.sessions.specs.Changes.{IsPlainChange, AnswersIn}
 use Rattle.sessions.proofs.NoBills.{with_one, without_one}
 
 -- one more entry --------------------------------------------------------------------------------------------------------------------

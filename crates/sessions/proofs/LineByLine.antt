@@ -1,6 +1,6 @@
 -- A session line by line: what was served so far, and what comes of it.
 use Rattle.std.proofs.Common.{◌≡◌, ◌≢◌, ℕ, ◌+◌, ◌≤◌, ◌<◌, min, ◌^◌, ◌-◌, List, [], ◌∷◌, ◌++◌, length, take, drop, Bool, true, false, cond, not, ◌&&◌, ◌||◌, nat_lt, map, Option, Some, None, refl, sym, ap, subst, ◌∙◌, arith, append_assoc, append-nil, length-append, inl, inr}
-use Rattle.std.specs.Prelude.{filter, IsTrue, ◌↔◌, ◌⊎◌, Ok, Err}
+use Rattle.std.specs.Prelude.{filter, IsTrue, ◌↔◌, ◌⊎◌, Ok}
 use Rattle.plan_schema.specs.declared.outside.SinkFault.{SinkFault}
 use Rattle.std.specs.List.{flat_map, enumerate_from}
 use Rattle.std.proofs.lemmas.Bool.Decides.{nat_tests}
@@ -11,7 +11,7 @@ use Rattle.std.proofs.lemmas.List.FromFn.{length-enumerate_from}
 use Rattle.std.proofs.lemmas.List.Sums.{length-filter, count_by-le-length}
 use Rattle.plan_schema.specs.declared.name.Name.{Name}
 use Rattle.plan_schema.specs.declared.change.Entry.{Entry}
-use Rattle.plan_schema.specs.Outside.{extended, TookFront}
+use Rattle.plan_schema.specs.Outside.{extended}
 use Rattle.plan_schema.proofs.Writes.{extended_nil, extended_twice}
 use Rattle.byte_lines.specs.Lines.{lines_of, lines_from, lines_after}
 use Rattle.byte_lines.proofs.Streams.{lines_after-nothing, lines_after-append}
@@ -23,7 +23,7 @@ use Rattle.sessions.specs.declared.serve.Stop.TheVariants as stops
 use Rattle.command_words.specs.declared.reply.Reply.{Reply}
 use Rattle.command_words.specs.declared.reply.Reply.TheVariants as replies
 use Rattle.command_words.specs.Replies.{reply_text}
-use Rattle.session_rules.specs.Requests.{Line, is_blank_line, reading, read_wish, Request, requests_of, user_after, guest}
+use Rattle.session_rules.specs.Requests.{is_blank_line, reading, read_wish, Request, requests_of, user_after, guest}
 use Rattle.session_rules.specs.Laws.{last_user}
 use Rattle.sessions.specs.Serving.{byte_limit, line_limit, lines_within, is_quit_wish, has_quit, requests_in, is_past_limit, Setting, IsAlone, HasAnswered, Serves, Stopped, IsServed, IsServedShort, HasQuit, Answers, IsLineAnswer, IsPassed, IsLost, IsEntered, IsLineReply, line_request, asked, SoFar}
 use Rattle.sessions.proofs.Requested.{counts, requests_split, one_more_line, quit_is_last, has_its_quit, one_more_request, still_none, front_has_none, all_asked, same_blank}

@@ -1,9 +1,8 @@
 -- Rows, keys and contents that have no bills.
-use Rattle.std.proofs.Common.{◌≡◌, ℕ, List, [], ◌∷◌, Bool, true, false, not, cond, nat_eq, Option, Some, None, Result, Ok, Err, refl, ap, ◌∙◌}
+use Rattle.std.proofs.Common.{◌≡◌, ℕ, List, [], ◌∷◌, Bool, true, false, not, cond, nat_eq, Option, Some, None, Result, Ok, Err, refl}
 use Rattle.std.specs.Prelude.{IfOk, codes}
-use Rattle.std.specs.List.{slice_get, filter}
-use Rattle.std.specs.Map.{lookup, remove_entry}
-use Rattle.std.specs.BTreeMap.{is_at, insert_entry}
+use Rattle.std.specs.List.{slice_get}
+use Rattle.std.specs.BTreeMap.{is_at}
 use Rattle.std.specs.Ordering.{match_ordering}
 use Rattle.std.specs.declared.cmp.Ordering.{Ordering}
 use Rattle.std.specs.declared.cmp.Ordering.TheVariants.{Less, Equal, Greater}
@@ -13,7 +12,6 @@ use Rattle.plan_schema.specs.declared.fault.FieldFault.{FieldFault}
 use Rattle.plan_schema.specs.declared.key.Key.{Key}
 use Rattle.plan_schema.specs.declared.key.Key.TheVariants as keys
 use Rattle.plan_schema.specs.declared.key.Record.{Record}
-use Rattle.plan_schema.specs.declared.key.Record.TheVariants as records
 use Rattle.plan_schema.specs.Key.{key_cmp}
 use Rattle.plan_schema.specs.Contents.{Contents, with_record, without_key}
 use Rattle.row_text.specs.Row.{◌>>=◌, text_at, text_of_field, name_at, day_at, days_at, number_at, end_at, week_at, lot_at, calendar_at, plan_of, cal_of, holiday_of, part_of, stock_of, demand_of, receipt_of, bill_of, row_of_table, row_of, one_name, two_names, holiday_key_of, bill_key_of, key_of_table, key_of}

@@ -1,8 +1,8 @@
 -- Reading an input piece by piece.
-use Rattle.std.proofs.Common.{◌≡◌, ℕ, suc, ◌+◌, ◌-◌, ◌≤◌, ◌<◌, min, List, [], ◌∷◌, ◌++◌, length, take, drop, Bool, true, false, ◌||◌, nat_lt, Option, Some, None, refl, sym, ap, subst, ◌∙◌, arith, append_assoc, append-nil, length-append}
+use Rattle.std.proofs.Common.{◌≡◌, ℕ, suc, ◌+◌, ◌-◌, ◌≤◌, ◌<◌, List, [], ◌∷◌, ◌++◌, length, take, drop, true, false, ◌||◌, nat_lt, Option, Some, None, refl, sym, ap, subst, ◌∙◌, arith, length-append}
 use Rattle.std.proofs.lemmas.Bool.Decides.{nat_tests}
 use Rattle.std.proofs.lemmas.List.{length-drop, length-take, take-append-drop, drop-drop, take-take, drop_all}
-use Rattle.std.proofs.Math.Seq.{drop-length, take-length, take-append-le, take-append-add, take-append_seam}
+use Rattle.std.proofs.Math.Seq.{drop-length, take-length, take-append-add, take-append_seam}
 use Rattle.plan_schema.specs.declared.name.Name.{Name}
 use Rattle.plan_schema.specs.Name.{is_name, name_of}
 use Rattle.session_rules.specs.Requests.{guest}
@@ -12,7 +12,7 @@ use Rattle.byte_lines.specs.Lines.{line_of, line_before, lines_of, lines_from, l
 use Rattle.byte_lines.proofs.Streams.{lines_from-append, lines_after-complete, lines_after-begun}
 use Rattle.byte_lines.specs.declared.rounds.Served.TheVariants as ends
 use Rattle.sessions.specs.Serving.{Setting, byte_limit, line_limit, lines_within, is_past_limit, Serves, SoFar, HasQuit}
-use Rattle.sessions.proofs.LineByLine.{short, is_past, is_within, has_ended, within_none, within_some, within_front, within_complete}
+use Rattle.sessions.proofs.LineByLine.{short, is_past, has_ended, within_none, within_some, within_front, within_complete}
 
 -- the rest of an input is left, of which so many bytes may still be read; the lines before it were served
 pub record Going (s : Setting) (input : List ℕ) (kept : Option (List ℕ)) (lines requests : ℕ) (user : Name) (entries : List Entry) (room : ℕ) (left before after : Option (List ℕ)) : Type 0 where

@@ -1,7 +1,7 @@
 -- The requests of an input, line by line: each line that isn't blank is one request, up to a QUIT.
-use Rattle.std.proofs.Common.{◌≡◌, ◌≢◌, ℕ, suc, ◌+◌, ◌≤◌, List, [], ◌∷◌, ◌++◌, length, drop, take, Bool, true, false, cond, not, ◌&&◌, ◌||◌, map, Option, Some, None, Result, Ok, Err, refl, sym, ap, subst, ◌∙◌, arith, append_assoc, append-nil, length-append, inl, inr}
-use Rattle.std.specs.Prelude.{nat_eq, nat_lt, codes, filter, IfOk, ◌⊎◌}
-use Rattle.std.specs.List.{enumerate_from, list_any, slice_get}
+use Rattle.std.proofs.Common.{◌≡◌, ◌≢◌, ℕ, ◌+◌, List, [], ◌∷◌, ◌++◌, length, drop, Bool, true, false, cond, not, ◌&&◌, ◌||◌, map, Option, Some, None, Result, Ok, Err, refl, sym, ap, subst, ◌∙◌, arith, append-nil, inl, inr}
+use Rattle.std.specs.Prelude.{nat_eq, codes, filter, IfOk, ◌⊎◌}
+use Rattle.std.specs.List.{enumerate_from, slice_get}
 use Rattle.std.specs.Cmp.Lexicographic.{pointwise}
 use Rattle.std.proofs.lemmas.List.{map-append}
 use Rattle.std.proofs.lemmas.List.Elements.{filter-append}
@@ -19,8 +19,7 @@ use Rattle.command_words.specs.declared.command.Command.{Command}
 use Rattle.command_words.specs.declared.command.Command.TheVariants as commands
 use Rattle.command_words.specs.declared.reply.Bad.{Bad}
 use Rattle.command_words.specs.declared.reply.Bad.TheVariants as bads
-use Rattle.session_rules.specs.Requests.{Line, is_blank_line, is_served, is_one_of, served_words, is_closed, closed_fault, open_reading, reading, Request, Asks, read_wish, wish_of, request_of, taken_by, is_quit, requests_within, requests_of_lines, requests_of, request_lines}
-use Rattle.byte_lines.specs.Lines.{lines_of}
+use Rattle.session_rules.specs.Requests.{Line, is_blank_line, is_served, is_one_of, is_closed, closed_fault, reading, Request, Asks, read_wish, wish_of, request_of, taken_by, is_quit, requests_within, requests_of_lines}
 use Rattle.sessions.specs.Opened.{is_opened}
 use Rattle.sessions.specs.Plans.{is_bill}
 use Rattle.sessions.specs.Serving.{is_quit_wish, has_quit, requests_in, line_request, asked}

@@ -1,17 +1,15 @@
 -- What a session over a book comes to: legal replies to its requests, or a front of their text, and the entries of its accepted changes.
-use Rattle.std.specs.Prelude.{◌≡◌, ◌⊎◌, ℕ, ◌+◌, ◌≤◌, Bool, true, false, not, ◌&&◌, ◌||◌, nat_lt, List, [], ◌∷◌, ◌++◌, length, take, map, filter, Option, Some, None, Result, Ok, Err}
+use Rattle.std.specs.Prelude.{◌≡◌, ◌⊎◌, ℕ, ◌+◌, ◌≤◌, Bool, true, false, not, ◌&&◌, ◌||◌, nat_lt, List, [], ◌++◌, length, take, map, filter, Option, Some, None, Result, Ok, Err}
 use Rattle.std.specs.List.{flat_map, enumerate_from, list_any, range_with_len}
 use Rattle.plan_schema.specs.declared.name.Name.{Name}
-use Rattle.plan_schema.specs.declared.change.Change.{Change}
 use Rattle.plan_schema.specs.declared.change.Entry.{Entry}
 use Rattle.plan_schema.specs.Contents.{Contents}
-use Rattle.plan_schema.specs.Outside.{Rose, extended}
+use Rattle.plan_schema.specs.Outside.{extended}
 use Rattle.scenario_rules.specs.World.{begin_with}
 use Rattle.scenario_rules.specs.Steps.{world_after}
 use Rattle.byte_lines.specs.Lines.{lines_of, lines_from}
 use Rattle.byte_lines.specs.declared.rounds.Served.{Served}
 use Rattle.byte_lines.specs.declared.rounds.Served.TheVariants as ends
-use Rattle.command_words.specs.declared.command.Command.{Command}
 use Rattle.command_words.specs.declared.command.Command.TheVariants as commands
 use Rattle.command_words.specs.declared.reply.Reply.{Reply}
 use Rattle.command_words.specs.declared.reply.Reply.TheVariants as replies

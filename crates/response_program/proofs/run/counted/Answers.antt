@@ -1,5 +1,5 @@
-use Rattle.std.proofs.Common.{◌≡◌, ◌≢◌, ◌∙◌, [], Ok, Err, Some, sym, ap, subst}
-use Rattle.std.specs.Prelude.{IsSome, OnOk}
+use Rattle.std.proofs.Common.{◌≡◌, ◌∙◌, Err, Some, sym, ap, subst}
+use Rattle.std.specs.Prelude.{OnOk}
 use Rattle.plan_schema.specs.Outside.{extended}
 use Rattle.plan_schema.specs.declared.outside.SinkFault.TheVariants as sinks
 use Rattle.plan_schema.proofs.Writes.{rose_after, rose_later}

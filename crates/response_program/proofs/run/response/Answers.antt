@@ -1,6 +1,6 @@
-use Rattle.std.proofs.Common.{◌≡◌, ◌∙◌, ap, sym, subst, true, Some}
+use Rattle.std.proofs.Common.{◌∙◌, ap, sym, subst}
 use Rattle.std.specs.Prelude.{map, string_bytes, is_some}
-use Rattle.response_program.specs.Runs.{Differ, names_of}
+use Rattle.response_program.specs.Runs.{Differ}
 use Rattle.response_program.proofs.NamesApart.{differ_in}
 use Rattle.response_program.proofs.run.response.Goals as goal
 

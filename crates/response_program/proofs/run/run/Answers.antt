@@ -1,10 +1,8 @@
-use Rattle.std.proofs.Common.{◌≡◌, ◌≢◌, ◌∙◌, Ok, Some, sym, ap, subst}
-use Rattle.std.specs.Prelude.{IsSome, IfOk}
-use Rattle.plan_import.specs.BaseFile.{base_of}
+use Rattle.std.proofs.Common.{◌∙◌}
 use Rattle.response_program.specs.Views.{view}
 use Rattle.response_program.specs.Outcomes.{outcome_of}
 use Rattle.response_program.specs.Runs.{names_of}
-use Rattle.response_program.proofs.Chains.{opened, gave_in, both_fell, cause_after}
+use Rattle.response_program.proofs.Chains.{opened, gave_in, both_fell}
 use Rattle.response_program.proofs.Bases.{by_book}
 use Rattle.response_program.proofs.run.run.Goals as goal
 

@@ -1,7 +1,7 @@
-use Rattle.std.proofs.Common.{◌≡◌, ◌≢◌, ◌∙◌, [], length, Some, Ok, Err, sym, ap, subst, inl, inr}
+use Rattle.std.proofs.Common.{◌≡◌, ◌≢◌, ◌∙◌, [], length, Some, Ok, Err, sym, ap, subst, inr}
 use Rattle.plan_schema.specs.declared.outside.SinkFault.TheVariants as sinks
 use Rattle.std.specs.Prelude.{IsSome, OnOk}
-use Rattle.plan_schema.specs.Outside.{extended, IsKeptOrEmpty}
+use Rattle.plan_schema.specs.Outside.{extended}
 use Rattle.plan_journal.specs.Entries.{journal_text}
 use Rattle.scenario_rules.specs.Journal.{IsLegal}
 use Rattle.sessions.specs.Serving.{IsServed, IsServedShort}

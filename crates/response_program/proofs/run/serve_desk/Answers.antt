@@ -1,4 +1,4 @@
-use Rattle.std.proofs.Common.{◌≡◌, ◌∙◌, [], Some, ap, sym, subst}
+use Rattle.std.proofs.Common.{◌∙◌, [], Some, sym, subst}
 use Rattle.response_program.specs.Views.{view}
 use Rattle.response_program.specs.Runs.{names_of, only_session}
 use Rattle.sessions.specs.Serving.{Serves}

@@ -1,4 +1,3 @@
-use Rattle.std.proofs.Common.{◌∙◌, sym}
 use Rattle.sessions.proofs.Entered.{accepted, refused_change, failed, refused_by, failed_by, no_not}
 use Rattle.sessions.proofs.command_reply.reply_to_change.Goals as goal
 

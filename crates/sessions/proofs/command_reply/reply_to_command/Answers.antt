@@ -1,4 +1,4 @@
-use Rattle.std.proofs.Common.{◌∙◌, ap, sym, subst, refl, arith}
+use Rattle.std.proofs.Common.{ap, sym, subst, refl, arith}
 use Rattle.session_rules.specs.Requests.{wish_of}
 use Rattle.sessions.specs.Changes.{IsReplied}
 use Rattle.sessions.proofs.Entered.{asked_answers, no_fault}

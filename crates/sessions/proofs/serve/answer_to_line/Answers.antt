@@ -1,6 +1,5 @@
 use Rattle.std.proofs.Common.{◌∙◌, Some, sym}
 use Rattle.plan_book.specs.History.{history}
-use Rattle.session_rules.specs.Requests.{user_after, wish_of}
 use Rattle.sessions.specs.Changes.{setting_of}
 use Rattle.sessions.proofs.Answering.{told_line, lost_line, lost_either, greets, speaks_on, quits, goes_on}
 use Rattle.sessions.proofs.serve.answer_to_line.Goals.{in-Hello, in_default, in-Quit, in_default-matches}

@@ -1,11 +1,11 @@
-use Rattle.std.proofs.Common.{◌≡◌, ◌∙◌, ◌+◌, ◌≤◌, ◌<◌, ◌++◌, drop, take, length, [], Some, Err, ap, sym, subst, refl, arith, append_assoc, append-nil, length-append}
+use Rattle.std.proofs.Common.{◌≡◌, ◌∙◌, ◌++◌, drop, take, length, [], Some, ap, sym, subst, refl, arith, append_assoc, append-nil, length-append}
 use Rattle.std.proofs.lemmas.List.{length-take, length-drop}
 use Rattle.byte_lines.specs.Lines.{lines_after, lines_from}
 use Rattle.plan_book.specs.History.{history}
 use Rattle.session_rules.specs.Requests.{guest}
-use Rattle.sessions.specs.Serving.{SoFar, setting, byte_limit}
+use Rattle.sessions.specs.Serving.{SoFar, setting}
 use Rattle.sessions.proofs.LineByLine.{begin, stopped}
-use Rattle.sessions.proofs.Reading.{guest_is, not_nameless, is_guest, gave, in_two, broken, over, kept_behind, counted_behind, quit_in_time, past_bytes}
+use Rattle.sessions.proofs.Reading.{not_nameless, is_guest, gave, in_two, broken, over, kept_behind, counted_behind, quit_in_time, past_bytes}
 use Rattle.sessions.proofs.serve.serve_alone.Goals as goal
 
 pub unreachable-requires : goal.unreachable-requires

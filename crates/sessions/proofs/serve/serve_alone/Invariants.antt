@@ -1,4 +1,4 @@
-use Rattle.std.proofs.Common.{◌≡◌, ◌≤◌, ℕ, List, true, false, Some}
+use Rattle.std.proofs.Common.{◌≡◌, ◌≤◌, ℕ, List, false, Some}
 use Rattle.plan_book.specs.History.{history}
 use Rattle.sessions.specs.Serving.{IsAlone, setting}
 use Rattle.sessions.proofs.Reading.{Going}

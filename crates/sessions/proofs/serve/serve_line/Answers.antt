@@ -1,4 +1,4 @@
-use Rattle.std.proofs.Common.{◌∙◌, ◌+◌, ◌∷◌, Ok, Err, sym, subst, refl, arith}
+use Rattle.std.proofs.Common.{◌∙◌, ◌+◌, ◌∷◌, Ok, sym, subst, arith}
 use Rattle.byte_lines.specs.Cuts.{shown}
 use Rattle.byte_lines.specs.Lines.{line_of}
 use Rattle.plan_book.specs.History.{history}

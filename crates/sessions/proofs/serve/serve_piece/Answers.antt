@@ -1,4 +1,4 @@
-use Rattle.std.proofs.Common.{◌≡◌, ◌+◌, ◌∙◌, ◌++◌, drop, length, Some, [], ap, sym, subst, arith}
+use Rattle.std.proofs.Common.{◌+◌, ◌∙◌, ◌++◌, drop, length, Some, [], ap, sym, subst, arith}
 use Rattle.std.proofs.lemmas.List.{length-drop}
 use Rattle.byte_lines.specs.Lines.{lines_after, lines_from}
 use Rattle.plan_book.specs.History.{history}

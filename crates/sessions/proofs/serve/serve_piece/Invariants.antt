@@ -1,4 +1,4 @@
-use Rattle.std.proofs.Common.{◌≡◌, ◌≤◌, ◌+◌, ◌-◌, ◌++◌, ℕ, List, Option, drop, length, true, false}
+use Rattle.std.proofs.Common.{◌≡◌, ◌≤◌, ◌+◌, ◌-◌, ◌++◌, ℕ, List, Option, drop, length, false}
 use Rattle.byte_lines.specs.Lines.{lines_after, lines_from}
 use Rattle.plan_book.specs.History.{Story, history}
 use Rattle.sessions.specs.Changes.{setting_of}

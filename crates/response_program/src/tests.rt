@@ -187,6 +187,34 @@ fn changes_are_journaled(rt: HostRuntime) -> Result<(), Fail> {
     Ok(())
 }
 
+/// An input of empty lines.
+fn empty_lines(alloc: Global, count: u64) -> Result<String, AllocError> {
+    let mut lines = String::new(alloc);
+    for _ in 0..count {
+        lines.push_str("\n")?;
+    }
+    Ok(lines)
+}
+
+#[test]
+fn a_session_has_a_million_lines(rt: HostRuntime) -> Result<(), Fail> {
+    let alloc = rt.alloc();
+    let cases = [(1_000_000, 0, ENDED), (1_000_001, 7, "limit 1\n")];
+    for (count, status, console) in cases {
+        let input = empty_lines(alloc, count)?;
+        let mut shelf = shelf_with(alloc, &[], &[], &[PART], input.as_str())?;
+        let words = texts(alloc, &["run", "base", "journal", "in", "out"])?;
+        assert_eq!(rt; response(alloc, words.as_slice(), &mut shelf), status);
+        assert_eq!(rt; shelf.held("-").unwrap_or(b""), console.as_bytes());
+        assert_eq!(rt;
+            shelf.held("journal").unwrap_or(b""),
+            "plan-journal 2\n".as_bytes()
+        );
+        assert!(rt; shelf.held("out").unwrap_or(b"").is_empty());
+    }
+    Ok(())
+}
+
 /// Whether the words are refused, with the console's line and nothing else written.
 fn is_refused(alloc: Global, words: &[&str]) -> Result<bool, AllocError> {
     let mut shelf = shelf_with(alloc, &[], &[], &[PART], "PLAN Baseline A\n")?;

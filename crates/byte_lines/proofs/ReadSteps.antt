@@ -1,7 +1,7 @@
 -- A source that is read piece by piece.
 use Rattle.std.proofs.Common.{◌≡◌, ℕ, ◌+◌, ◌≤◌, ◌<◌, List, [], ◌++◌, length, take, drop, Option, Some, None, sym, ap, subst, ◌∙◌, take-add, length-append, length-drop, arith}
 use Rattle.std.proofs.lemmas.List.{length-take, drop-drop, take_all}
-use Rattle.plan_schema.specs.Outside.{Gave, GaveFront}
+use Rattle.plan_schema.specs.Outside.{Gave, GaveFront, LeavesEnd}
 use Rattle.byte_lines.specs.ReadAll.{ReadFront, ReadWhole}
 
 -- the bytes are a front of what was left, and the rest is left
@@ -17,6 +17,16 @@ gave_front before bytes now after into n so_far given = subst (λ o. Gave o afte
 -- where what is left isn't told, a read tells nothing
 pub gave_untold : (now after : Option (List ℕ)) (into : List ℕ) (n : ℕ) → now ≡ None → Gave now after into n → after ≡ None
 gave_untold now after into n none given = subst (λ o. Gave o after into n) none given
+
+-- a failed read behind a front leaves an end of all that was left
+pub failed_behind : (before bytes : List ℕ) (now after : Option (List ℕ)) → ReadSoFar before now bytes → LeavesEnd now after → LeavesEnd (Some before) after
+failed_behind before bytes now after so_far leaves =
+    let end = subst (λ o. LeavesEnd o after) so_far.rest leaves in
+    (length bytes + end.0, omega (arith, so_far.within, end.1, length-drop (length bytes) before), end.2 ∙ ap Some (drop-drop end.0 (length bytes) before))
+
+-- where what is left isn't told, a failed read tells nothing
+pub failed_untold : (now after : Option (List ℕ)) → now ≡ None → LeavesEnd now after → after ≡ None
+failed_untold now after none leaves = subst (λ o. LeavesEnd o after) none leaves
 
 module _ {before bytes : List ℕ} {now after : Option (List ℕ)} {into : List ℕ} {n : ℕ} (so_far : ReadSoFar before now bytes) (front : GaveFront (drop (length bytes) before) after into n) where
   -- no byte was left

@@ -29,6 +29,3 @@ pub use reading::{ReadAllFault, read_all};
 pub use rounds::{Desk, Rounds, Served};
 pub use steady::{SteadyIn, SteadyOut, steady_devices_count_no_fault};
 pub use steady_shelf::{SteadyShelf, steady_shelves_tell_and_count_no_fault};
-
-#[cfg(test)]
-mod tests;

@@ -8,7 +8,7 @@ use plan_schema::outside::{Failed, Source};
 use std::alloc::{AllocError, Global};
 
 /// Why a source wasn't read whole.
-#[derive(Clone, Copy, Debug, PartialEq, Eq)]
+#[derive(Clone, Copy)]
 pub enum ReadAllFault {
     /// The source failed.
     Failed,

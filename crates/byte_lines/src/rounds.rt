@@ -9,7 +9,7 @@ use std::alloc::{AllocError, Global};
 use std::marker::Model;
 
 /// How a session ended.
-#[derive(Clone, Copy, Debug, PartialEq, Eq)]
+#[derive(Clone, Copy)]
 pub enum Served {
     /// The input was read to its end, or to its request to quit. Holds the number of requests.
     Ended(u64),
@@ -163,25 +163,13 @@ impl<S, K> Rounds<S, K> {
     }
 
     /// The desks of a round, from 0, which are the round's once more when the loan ends.
-    pub fn round_at(&mut self, at: usize) -> &mut [Desk<S, K>]
+    pub fn round(&mut self, at: usize) -> &mut [Desk<S, K>]
         requires { at < length self.old }
         ensures* writes_back { sem 𝓛 (LendsRound S.row K.row self.entry at result) }
         ensures value { slice_get self.old at ≡ Some result.now }
     {
         let round = &mut self.rounds[at];
         round.desks()
-    }
-
-    /// The desks of a round, from 0, or `None` where there is no such round. No clause says how the rounds stand after the loan:
-    /// `round_at` does.
-    pub fn round(&mut self, at: usize) -> Option<&mut [Desk<S, K>]>
-        ensures { option_copied_mut result ≡ slice_get self.old at }
-    {
-        if at < self.rounds() {
-            Some(self.round_at(at))
-        } else {
-            None
-        }
     }
 
     /// Takes out the last desk of all. The rounds stay.

@@ -1,6 +1,6 @@
 -- What is read as a command is spelled so, and is sound.
 use Rattle.std.proofs.Common.{◌≡◌, ℕ, Bool, true, false, not, ◌&&◌, cond, nat_eq, List, [], ◌∷◌, drop, Option, Some, None, Result, Ok, Err, refl, sym, ap, ◌∙◌, subst, arith}
-use Rattle.std.specs.Prelude.{codes, decimal, IfOk}
+use Rattle.std.specs.Prelude.{codes, decimal, IfOk, is_ok}
 use Rattle.std.specs.List.{slice_get, find}
 use Rattle.std.specs.Cmp.Lexicographic.{pointwise, bytes_decides}
 use Rattle.plan_schema.specs.declared.fault.FieldFault.{FieldFault}
@@ -13,9 +13,11 @@ use Rattle.row_text.proofs.Fields.{and_true, le_true, bind_ok, text_at_ok, name_
 use Rattle.row_text.proofs.Lots.{chosen_from}
 use Rattle.row_text.proofs.Rows.{row_alone}
 use Rattle.row_text.proofs.KeyForms.{key_alone}
+use Rattle.query_language.specs.Reading.{check_of}
+use Rattle.query_language.specs.declared.fault.QueryFault.{QueryFault}
 use Rattle.command_words.specs.Words.{words_of, query_of}
 use Rattle.command_words.specs.Verbs.{verb_word, all_verbs, verb_of}
-use Rattle.command_words.specs.Commands.{only_name, two_names, behind_scenario, hello_of, point_of, put_of, del_of, load_of, branch_of, share_of, update_of, commit_of, drop_of, tree_of, plan_cell_of, cal_cell_of, part_cell_of, cell_of_word, show_of, level_of, plan_of, peg_of, atp_of, select_of, reclaim_of, quit_of, command_of_verb, in_fields, with_verb, with_word, command_of}
+use Rattle.command_words.specs.Commands.{only_name, two_names, behind_scenario, hello_of, point_of, put_of, del_of, load_of, branch_of, share_of, update_of, commit_of, drop_of, tree_of, plan_cell_of, cal_cell_of, part_cell_of, cell_of_word, show_of, level_of, plan_of, peg_of, trace_of, atp_of, cost_of, select_of, reclaim_of, quit_of, command_of_verb, with_query, in_query, in_fields, with_verb, with_word, command_of}
 use Rattle.command_words.specs.Spelling.{cell_fields, cell_has_name, words_of_command, is_sound_command}
 use Rattle.command_words.specs.declared.verb.Verb.{Verb}
 use Rattle.command_words.specs.declared.verb.Verb.TheVariants as verbs
@@ -193,13 +195,35 @@ peg_takes words b first h =
     (fields_are words (verb_word verbs.Peg ∷ s.0 ∷ p.0 ∷ day_text d.0 ∷ []) (end_at_takes words 4 e.0 e.1) (first, (name.0, (part.0, (day.0, tt)))))
     (and_true name.1 (and_true part.1 day.1))
 
+trace_takes : (words : List (List ℕ)) (b : Command) → Heads words (verb_word verbs.Trace) → trace_of words ≡ read b → IsCommandOf words b
+unfolding trace_of words_of_command
+trace_takes words b first h =
+    let s = bind_ok (name_at words 1) _ b h in
+    let p = bind_ok (name_at words 2) _ b s.2 in
+    let d = bind_ok (day_at words 3) _ b p.2 in
+    let e = bind_ok (end_at words 4) _ b d.2 in
+    let name = name_at_takes words 1 s.0 s.1 in
+    let part = name_at_takes words 2 p.0 p.1 in
+    let day = day_at_takes words 3 d.0 d.1 in
+    read_as words (commands.Trace s.0 p.0 d.0) b e.2
+    (fields_are words (verb_word verbs.Trace ∷ s.0 ∷ p.0 ∷ day_text d.0 ∷ []) (end_at_takes words 4 e.0 e.1) (first, (name.0, (part.0, (day.0, tt)))))
+    (and_true name.1 (and_true part.1 day.1))
+
 third : (words : List (List ℕ)) (a b c : List ℕ) (more : List (List ℕ)) → words ≡ a ∷ b ∷ more → slice_get words 2 ≡ Some c → (rest : List (List ℕ)) × (more ≡ c ∷ rest)
 third words a b c [] e h = let none : slice_get (a ∷ b ∷ []) 2 ≡ Some c = ap (λ t. slice_get t 2) (sym e) ∙ h in absurd (let no : ⊥ = cc in no)
 third words a b c (x ∷ rest) e h = let some : slice_get (a ∷ b ∷ x ∷ rest) 2 ≡ Some c = ap (λ t. slice_get t 2) (sym e) ∙ h in (rest, let same : x ≡ c = cc in ap (λ t. t ∷ rest) same)
 
-select_takes : (line : List ℕ) (b : Command) → Heads (words_of line) (verb_word verbs.Select) → select_of line (words_of line) ≡ read b → IsCommandOf (words_of line) b
+-- a query that the command asks is one of the language
+abbrev AsksQuery : Command → Type 0
+AsksQuery command = in_query command ≡ Ok command
+
+query_passes : (scenario query : List ℕ) (r : Result (Unit {0}) QueryFault) → with_query r (commands.Select scenario query) ≡ Ok (commands.Select scenario query) → is_ok r ≡ true
+query_passes scenario query (Ok _) h = refl
+query_passes scenario query (Err fault) h = cc
+
+select_takes : (line : List ℕ) (b : Command) → AsksQuery b → Heads (words_of line) (verb_word verbs.Select) → select_of line (words_of line) ≡ read b → IsCommandOf (words_of line) b
 unfolding select_of words_of_command
-select_takes line b first h =
+select_takes line b asks first h =
     let s = bind_ok (name_at (words_of line) 1) _ b h in
     let t = bind_ok (text_at (words_of line) 2) _ b s.2 in
     let name = name_at_takes (words_of line) 1 s.0 s.1 in
@@ -207,29 +231,33 @@ select_takes line b first h =
     let query : words_of (query_of line) ≡ drop 2 (words_of line) = words_of_query line (verb_word verbs.Select) s.0 (drop 2 (words_of line)) two in
     let more = third (words_of line) (verb_word verbs.Select) s.0 t.0 (drop 2 (words_of line)) two (text_at_ok (words_of line) 2 t.0 t.1) in
     read_as (words_of line) (commands.Select s.0 (query_of line)) b t.2
-    (two ∙ ap (λ ws. verb_word verbs.Select ∷ s.0 ∷ ws) (sym query)) (and_true name.1 (query_is_text line t.0 more.0 (query ∙ more.1)))
+    (two ∙ ap (λ ws. verb_word verbs.Select ∷ s.0 ∷ ws) (sym query))
+    (and_true name.1 (and_true (query_is_text line t.0 more.0 (query ∙ more.1))
+    (query_passes s.0 (query_of line) (check_of (query_of line)) (subst AsksQuery (sym (same_command _ b t.2)) asks))))
 
-verb_takes : (verb : Verb) (line : List ℕ) (b : Command) → Heads (words_of line) (verb_word verb) → command_of_verb verb line (words_of line) ≡ read b → IsCommandOf (words_of line) b
-unfolding command_of_verb words_of_command hello_of point_of branch_of share_of update_of commit_of drop_of tree_of level_of plan_of atp_of reclaim_of quit_of
-verb_takes verbs.Hello line b first h = one_takes (words_of line) (verb_word verbs.Hello) commands.Hello b first (λ n. refl) (λ n. refl) h
-verb_takes verbs.Point line b first h = alone_takes (words_of line) (verb_word verbs.Point) commands.Point b first refl refl h
-verb_takes verbs.Put line b first h = put_takes (words_of line) b first h
-verb_takes verbs.Del line b first h = del_takes (words_of line) b first h
-verb_takes verbs.Load line b first h = load_takes (words_of line) b first h
-verb_takes verbs.Branch line b first h = pair_takes (words_of line) (verb_word verbs.Branch) commands.Branch b first (λ m n. refl) (λ m n. refl) h
-verb_takes verbs.Share line b first h = one_takes (words_of line) (verb_word verbs.Share) commands.Share b first (λ n. refl) (λ n. refl) h
-verb_takes verbs.Update line b first h = one_takes (words_of line) (verb_word verbs.Update) commands.Update b first (λ n. refl) (λ n. refl) h
-verb_takes verbs.Commit line b first h = one_takes (words_of line) (verb_word verbs.Commit) commands.Commit b first (λ n. refl) (λ n. refl) h
-verb_takes verbs.Drop line b first h = one_takes (words_of line) (verb_word verbs.Drop) commands.Drop b first (λ n. refl) (λ n. refl) h
-verb_takes verbs.Tree line b first h = alone_takes (words_of line) (verb_word verbs.Tree) commands.Tree b first refl refl h
-verb_takes verbs.Show line b first h = show_takes (words_of line) b first h
-verb_takes verbs.Level line b first h = pair_takes (words_of line) (verb_word verbs.Level) commands.Level b first (λ m n. refl) (λ m n. refl) h
-verb_takes verbs.Plan line b first h = pair_takes (words_of line) (verb_word verbs.Plan) commands.Plan b first (λ m n. refl) (λ m n. refl) h
-verb_takes verbs.Peg line b first h = peg_takes (words_of line) b first h
-verb_takes verbs.Atp line b first h = pair_takes (words_of line) (verb_word verbs.Atp) commands.Atp b first (λ m n. refl) (λ m n. refl) h
-verb_takes verbs.Select line b first h = select_takes line b first h
-verb_takes verbs.Reclaim line b first h = alone_takes (words_of line) (verb_word verbs.Reclaim) commands.Reclaim b first refl refl h
-verb_takes verbs.Quit line b first h = alone_takes (words_of line) (verb_word verbs.Quit) commands.Quit b first refl refl h
+verb_takes : (verb : Verb) (line : List ℕ) (b : Command) → AsksQuery b → Heads (words_of line) (verb_word verb) → command_of_verb verb line (words_of line) ≡ read b → IsCommandOf (words_of line) b
+unfolding command_of_verb words_of_command hello_of point_of branch_of share_of update_of commit_of drop_of tree_of level_of plan_of atp_of cost_of reclaim_of quit_of
+verb_takes verbs.Hello line b asks first h = one_takes (words_of line) (verb_word verbs.Hello) commands.Hello b first (λ n. refl) (λ n. refl) h
+verb_takes verbs.Point line b asks first h = alone_takes (words_of line) (verb_word verbs.Point) commands.Point b first refl refl h
+verb_takes verbs.Put line b asks first h = put_takes (words_of line) b first h
+verb_takes verbs.Del line b asks first h = del_takes (words_of line) b first h
+verb_takes verbs.Load line b asks first h = load_takes (words_of line) b first h
+verb_takes verbs.Branch line b asks first h = pair_takes (words_of line) (verb_word verbs.Branch) commands.Branch b first (λ m n. refl) (λ m n. refl) h
+verb_takes verbs.Share line b asks first h = one_takes (words_of line) (verb_word verbs.Share) commands.Share b first (λ n. refl) (λ n. refl) h
+verb_takes verbs.Update line b asks first h = one_takes (words_of line) (verb_word verbs.Update) commands.Update b first (λ n. refl) (λ n. refl) h
+verb_takes verbs.Commit line b asks first h = one_takes (words_of line) (verb_word verbs.Commit) commands.Commit b first (λ n. refl) (λ n. refl) h
+verb_takes verbs.Drop line b asks first h = one_takes (words_of line) (verb_word verbs.Drop) commands.Drop b first (λ n. refl) (λ n. refl) h
+verb_takes verbs.Tree line b asks first h = alone_takes (words_of line) (verb_word verbs.Tree) commands.Tree b first refl refl h
+verb_takes verbs.Show line b asks first h = show_takes (words_of line) b first h
+verb_takes verbs.Level line b asks first h = pair_takes (words_of line) (verb_word verbs.Level) commands.Level b first (λ m n. refl) (λ m n. refl) h
+verb_takes verbs.Plan line b asks first h = pair_takes (words_of line) (verb_word verbs.Plan) commands.Plan b first (λ m n. refl) (λ m n. refl) h
+verb_takes verbs.Peg line b asks first h = peg_takes (words_of line) b first h
+verb_takes verbs.Trace line b asks first h = trace_takes (words_of line) b first h
+verb_takes verbs.Cost line b asks first h = pair_takes (words_of line) (verb_word verbs.Cost) commands.Cost b first (λ m n. refl) (λ m n. refl) h
+verb_takes verbs.Atp line b asks first h = pair_takes (words_of line) (verb_word verbs.Atp) commands.Atp b first (λ m n. refl) (λ m n. refl) h
+verb_takes verbs.Select line b asks first h = select_takes line b asks first h
+verb_takes verbs.Reclaim line b asks first h = alone_takes (words_of line) (verb_word verbs.Reclaim) commands.Reclaim b first refl refl h
+verb_takes verbs.Quit line b asks first h = alone_takes (words_of line) (verb_word verbs.Quit) commands.Quit b first refl refl h
 
 -- the verb that is found has the word
 found : (word : List ℕ) (choices : List Verb) (verb : Verb) → find (λ v. pointwise nat_eq word (verb_word v)) choices ≡ Some verb → word ≡ verb_word verb
@@ -244,10 +272,19 @@ found word (choice ∷ choices) verb h = by_test (pointwise nat_eq word (verb_wo
 word_takes : (word line : List ℕ) (o : Option Verb) (b : Command) → Heads (words_of line) word → verb_of word ≡ o → with_verb o line (words_of line) ≡ Ok b → IsCommandOf (words_of line) b
 unfolding verb_of
 word_takes word line (Some verb) b first is h =
-    verb_takes verb line b (first ∙ ap Some (found word all_verbs verb is)) (fields_ok (command_of_verb verb line (words_of line)) b h)
+    let read = fields_ok (command_of_verb verb line (words_of line)) b h in
+    verb_takes verb line b read.1 (first ∙ ap Some (found word all_verbs verb is)) read.0
   where
-    fields_ok : (r : Result Command FieldFault) (c : Command) → in_fields r ≡ Ok c → r ≡ Ok c
-    fields_ok (Ok c) d e = cc
+    same_query : (c : Command) (r : Result (Unit {0}) QueryFault) (d : Command) → with_query r c ≡ Ok d → c ≡ d
+    same_query c (Ok _) d e = cc
+    same_query c (Err fault) d e = cc
+
+    same_asked : (c d : Command) → in_query c ≡ Ok d → c ≡ d
+    same_asked (commands.Select scenario query) d e = same_query (commands.Select scenario query) (check_of query) d e
+    same_asked c d e = cc
+
+    fields_ok : (r : Result Command FieldFault) (c : Command) → in_fields r ≡ Ok c → (r ≡ Ok c) × AsksQuery c
+    fields_ok (Ok c) d e = let same = same_asked c d e in (ap Ok same, subst (λ a. in_query a ≡ Ok d) same e)
     fields_ok (Err fault) d e = cc
 word_takes word line None b first is h = cc
 

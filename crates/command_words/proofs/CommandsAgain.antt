@@ -1,6 +1,6 @@
 -- A sound command is read from its spelling.
-use Rattle.std.proofs.Common.{◌≡◌, ℕ, ◌+◌, ◌<◌, ◌≤◌, ◌^◌, Bool, true, false, not, ◌&&◌, nat_le, nat_lt, List, [], ◌∷◌, ◌++◌, length, reverse, Option, Some, None, Ok, refl, ap, ◌∙◌, append-nil, arith}
-use Rattle.std.specs.Prelude.{codes, decimal, slice_index_or}
+use Rattle.std.proofs.Common.{◌≡◌, ℕ, ◌+◌, ◌<◌, ◌≤◌, ◌^◌, Bool, true, false, not, ◌&&◌, nat_le, nat_lt, List, [], ◌∷◌, ◌++◌, length, reverse, Option, Some, None, Result, Ok, Err, refl, ap, ◌∙◌, append-nil, arith}
+use Rattle.std.specs.Prelude.{codes, decimal, slice_index_or, is_ok}
 use Rattle.std.specs.List.{list_all}
 use Rattle.std.proofs.lemmas.Bool.{and_parts}
 use Rattle.std.proofs.lemmas.Bool.Decides.{nat_tests}
@@ -23,10 +23,12 @@ use Rattle.row_text.specs.Spelling.{words_text, key_fields, row_fields, record_f
 use Rattle.row_text.proofs.Fields.{and_true, number_again}
 use Rattle.row_text.proofs.Rows.{row_again}
 use Rattle.row_text.proofs.KeyForms.{key_again}
+use Rattle.query_language.specs.Reading.{check_of}
+use Rattle.query_language.specs.declared.fault.QueryFault.{QueryFault}
 use Rattle.command_words.specs.Words.{is_word, words_of, query_of}
 use Rattle.command_words.specs.Verbs.{verb_word, verb_of}
-use Rattle.command_words.specs.Commands.{only_name, two_names, hello_of, point_of, put_of, del_of, load_of, branch_of, share_of, update_of, commit_of, drop_of, tree_of, plan_cell_of, cal_cell_of, part_cell_of, cell_of_word, show_of, level_of, plan_of, peg_of, atp_of, select_of, reclaim_of, quit_of, command_of_verb, with_word, command_of}
-use Rattle.command_words.specs.Spelling.{cell_fields, cell_has_name, words_of_command, command_text, begins_with_word, is_query_text, is_sound_command}
+use Rattle.command_words.specs.Commands.{only_name, two_names, hello_of, point_of, put_of, del_of, load_of, branch_of, share_of, update_of, commit_of, drop_of, tree_of, plan_cell_of, cal_cell_of, part_cell_of, cell_of_word, show_of, level_of, plan_of, peg_of, trace_of, atp_of, cost_of, select_of, reclaim_of, quit_of, command_of_verb, with_word, command_of}
+use Rattle.command_words.specs.Spelling.{cell_fields, cell_has_name, words_of_command, command_text, begins_with_word, is_query_text, is_query, is_sound_command}
 use Rattle.command_words.specs.declared.verb.Verb.TheVariants as verbs
 use Rattle.command_words.specs.declared.command.Command.{Command}
 use Rattle.command_words.specs.declared.command.Command.TheVariants as commands
@@ -147,9 +149,13 @@ show_again line scenario cells.Plan h k = rw h
 show_again line scenario (cells.Cal name) h k = rw (h, k)
 show_again line scenario (cells.Part name) h k = rw (h, k)
 
-select_again : (scenario query : List ℕ) → is_name scenario ≡ true → is_query_text query ≡ true → command_of (words_text (verb_word verbs.Select ∷ scenario ∷ query ∷ [])) ≡ Ok (commands.Select scenario query)
+passed : (r : Result (Unit {0}) QueryFault) → is_ok r ≡ true → r ≡ Ok tt
+passed (Ok _) h = refl
+passed (Err fault) h = cc
+
+select_again : (scenario query : List ℕ) → is_name scenario ≡ true → is_query_text query ≡ true → is_query query ≡ true → command_of (words_text (verb_word verbs.Select ∷ scenario ∷ query ∷ [])) ≡ Ok (commands.Select scenario query)
 unfolding text_at verb_of command_of_verb select_of name_at name_in
-select_again scenario query h q =
+select_again scenario query h q asked =
     let p = and_parts (begins_with_word query) (begins_with_word (reverse query)) q in
     let some = query_words query p.0 in
     let verb : is_word (verb_word verbs.Select) ≡ true = refl in
@@ -158,10 +164,10 @@ select_again scenario query h q =
     let spelled : words_text (verb_word verbs.Select ∷ scenario ∷ query ∷ []) ≡ line = ap (line_of (verb_word verbs.Select) scenario) (append-nil query) in
     let words : words_of line ≡ verb_word verbs.Select ∷ scenario ∷ some.0 ∷ some.1 = words_of_line (verb_word verbs.Select) scenario query verb name ∙ ap (λ ws. verb_word verbs.Select ∷ scenario ∷ ws) some.2 in
     let kept : query_of line ≡ query = query_of_line (verb_word verbs.Select) scenario query verb name q in
-    ap command_of spelled ∙ by_words line (verb_word verbs.Select ∷ scenario ∷ some.0 ∷ some.1) (commands.Select scenario query) words (rw (h, kept))
+    ap command_of spelled ∙ by_words line (verb_word verbs.Select ∷ scenario ∷ some.0 ∷ some.1) (commands.Select scenario query) words (rw (h, kept, passed (check_of query) asked))
 
 pub command_again : (command : Command) → is_sound_command command ≡ true → command_of (command_text command) ≡ Ok command
-unfolding words_of_command text_at verb_of command_of_verb hello_of point_of put_of del_of load_of branch_of share_of update_of commit_of drop_of tree_of level_of plan_of peg_of atp_of reclaim_of quit_of only_name two_names name_at name_in number_at day_at end_at
+unfolding words_of_command text_at verb_of command_of_verb hello_of point_of put_of del_of load_of branch_of share_of update_of commit_of drop_of tree_of level_of plan_of peg_of trace_of atp_of cost_of reclaim_of quit_of only_name two_names name_at name_in number_at day_at end_at
 command_again (commands.Hello user) h = one_again (verb_word verbs.Hello) user (commands.Hello user) refl h (rw h)
 command_again commands.Point h = by_spelling (verb_word verbs.Point ∷ []) commands.Point refl refl
 command_again (commands.Put scenario key value) h =
@@ -195,7 +201,16 @@ command_again (commands.Peg scenario part day) h =
     let q = and_parts (is_name part) (is_day day) p.1 in
     by_spelling (verb_word verbs.Peg ∷ scenario ∷ part ∷ day_text day ∷ []) (commands.Peg scenario part day)
     (and_true refl (and_true (name_seen scenario p.0) (and_true (name_seen part q.0) (one_seen (day_text day) (day_seen day))))) (rw (p.0, q.0, day_read_again day q.1))
+command_again (commands.Trace scenario part day) h =
+    let p = and_parts (is_name scenario) (is_name part && is_day day) h in
+    let q = and_parts (is_name part) (is_day day) p.1 in
+    by_spelling (verb_word verbs.Trace ∷ scenario ∷ part ∷ day_text day ∷ []) (commands.Trace scenario part day)
+    (and_true refl (and_true (name_seen scenario p.0) (and_true (name_seen part q.0) (one_seen (day_text day) (day_seen day))))) (rw (p.0, q.0, day_read_again day q.1))
 command_again (commands.Atp scenario part) h = let p = and_parts (is_name scenario) (is_name part) h in two_again (verb_word verbs.Atp) scenario part (commands.Atp scenario part) refl p.0 p.1 (rw (p.0, p.1))
-command_again (commands.Select scenario query) h = let p = and_parts (is_name scenario) (is_query_text query) h in select_again scenario query p.0 p.1
+command_again (commands.Cost scenario part) h = let p = and_parts (is_name scenario) (is_name part) h in two_again (verb_word verbs.Cost) scenario part (commands.Cost scenario part) refl p.0 p.1 (rw (p.0, p.1))
+command_again (commands.Select scenario query) h =
+    let p = and_parts (is_name scenario) (is_query_text query && is_query query) h in
+    let q = and_parts (is_query_text query) (is_query query) p.1 in
+    select_again scenario query p.0 q.0 q.1
 command_again commands.Reclaim h = by_spelling (verb_word verbs.Reclaim ∷ []) commands.Reclaim refl refl
 command_again commands.Quit h = by_spelling (verb_word verbs.Quit ∷ []) commands.Quit refl refl

@@ -13,6 +13,8 @@ use Rattle.plan_schema.specs.declared.key.Key.TheVariants as keys
 use Rattle.plan_schema.specs.declared.refusal.Room.{Room}
 use Rattle.plan_schema.specs.declared.refusal.Room.TheVariants as room
 use Rattle.plan_schema.specs.declared.refusal.Refusal.{Refusal}
+use Rattle.query_language.specs.declared.fault.QueryRule.{QueryRule}
+use Rattle.query_language.specs.declared.fault.QueryRule.TheVariants as query_rule
 use Rattle.plan_schema.specs.declared.refusal.Refusal.TheVariants as refusal
 use Rattle.plan_schema.specs.Name.{is_name, is_name_byte, starts_name}
 use Rattle.plan_schema.specs.Day.{Civil, is_day, date_of, date_text, day_text}
@@ -20,7 +22,7 @@ use Rattle.plan_schema.specs.Sound.{key_has_names}
 use Rattle.row_text.specs.Spelling.{spaced, words_text, key_fields}
 use Rattle.row_text.proofs.Fields.{and_true, own, number_again}
 use Rattle.command_words.specs.Words.{is_word_byte, is_word, words_of}
-use Rattle.command_words.specs.Replies.{ended, room_word, refusal_words, rule_word, bad_words, point_word, head_words, more_lines, reply_text}
+use Rattle.command_words.specs.Replies.{ended, room_word, refusal_words, rule_word, query_rule_word, bad_words, point_word, head_words, more_lines, reply_text}
 use Rattle.command_words.specs.Forms.{form, form_of, form_of_words, first_line, if_read, point_of, count_of, listed, most_point, most_lines, refusal_has_names, is_small, bad_is_small, is_within_limits}
 use Rattle.command_words.specs.Forms.{Done, Refused, Faulty}
 use Rattle.command_words.specs.declared.reply.Bad.{Bad}
@@ -122,6 +124,7 @@ refusal_seen (refusal.MissingCalendar name) h = one_seen name (name_seen name h)
 refusal_seen (refusal.Cyclic name) h = one_seen name (name_seen name h)
 refusal_seen (refusal.TooLarge name) h = one_seen name (name_seen name h)
 refusal_seen (refusal.NoDay day) h = one_seen (day_text day) (day_seen day)
+refusal_seen (refusal.NoCosts name) h = one_seen name (name_seen name h)
 refusal_seen refusal.ReadOnly h = refl
 
 rule_seen : (broken : Rule) → is_seen_word (rule_word broken) ≡ true
@@ -129,6 +132,12 @@ rule_seen rule.Shape = refl
 rule_seen rule.Range = refl
 rule_seen rule.Date = refl
 rule_seen rule.Own = refl
+
+query_rule_seen : (broken : QueryRule) → is_seen_word (query_rule_word broken) ≡ true
+query_rule_seen query_rule.Word = refl
+query_rule_seen query_rule.End = refl
+query_rule_seen query_rule.Deep = refl
+query_rule_seen query_rule.Many = refl
 
 small : (n : ℕ) → is_small n ≡ true → n < 2 ^ 64
 small n h = let below : n < 2 ^ 32 = grind (arith, nat_tests) in omega (arith, below)
@@ -138,6 +147,7 @@ unfolding bad_words
 bad_seen bad.Long h = refl
 bad_seen bad.Word h = refl
 bad_seen (bad.Field fault) h = and_true (number_seen fault.field (small fault.field h)) (one_seen (rule_word fault.rule) (rule_seen fault.rule))
+bad_seen (bad.Query fault) h = and_true (number_seen fault.place (small fault.place h)) (one_seen (query_rule_word fault.rule) (query_rule_seen fault.rule))
 bad_seen (bad.Row row fault) h =
     let p = and_parts (is_small row) (is_small fault.field) h in
     and_true (number_seen row (small row p.0)) (and_true (number_seen fault.field (small fault.field p.1)) (one_seen (rule_word fault.rule) (rule_seen fault.rule)))
@@ -242,6 +252,7 @@ refused_again point (refusal.MissingCalendar name) h = ap (option_map Refused) (
 refused_again point (refusal.Cyclic name) h = ap (option_map Refused) (point_again point h)
 refused_again point (refusal.TooLarge name) h = ap (option_map Refused) (point_again point h)
 refused_again point (refusal.NoDay day) h = ap (option_map Refused) (point_again point h)
+refused_again point (refusal.NoCosts name) h = ap (option_map Refused) (point_again point h)
 refused_again point refusal.ReadOnly h = ap (option_map Refused) (point_again point h)
 
 faulty_again : (why : Bad) → form_of_words (codes "BAD" ∷ bad_words why) ≡ Some Faulty
@@ -249,6 +260,7 @@ unfolding bad_words
 faulty_again bad.Long = refl
 faulty_again bad.Word = refl
 faulty_again (bad.Field fault) = refl
+faulty_again (bad.Query fault) = refl
 faulty_again (bad.Row row fault) = refl
 faulty_again (bad.RowLong row) = refl
 faulty_again bad.Short = refl

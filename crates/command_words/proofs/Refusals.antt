@@ -74,7 +74,7 @@ refusal_from word about =
     ∷ (codes "root", refusal.Root (at about 0)) ∷ (codes "has-children", refusal.HasChildren (at about 0)) ∷ (codes "depth", refusal.Depth (at about 0))
     ∷ (codes "full", refusal.Full (room_from (at about 0))) ∷ (codes "no-record", refusal.NoRecord (key_of_words about)) ∷ (codes "conflict", refusal.Conflict (key_of_words about))
     ∷ (codes "no-part", refusal.NoPart (at about 0)) ∷ (codes "missing-part", refusal.MissingPart (at about 0)) ∷ (codes "missing-calendar", refusal.MissingCalendar (at about 0))
-    ∷ (codes "cyclic", refusal.Cyclic (at about 0)) ∷ (codes "too-large", refusal.TooLarge (at about 0)) ∷ (codes "no-day", refusal.NoDay (day_said (day_of (at about 0)))) ∷ [])
+    ∷ (codes "cyclic", refusal.Cyclic (at about 0)) ∷ (codes "too-large", refusal.TooLarge (at about 0)) ∷ (codes "no-day", refusal.NoDay (day_said (day_of (at about 0)))) ∷ (codes "no-costs", refusal.NoCosts (at about 0)) ∷ [])
     refusal.ReadOnly word
 
 abbrev refusal_of_words : List (List ℕ) → Refusal
@@ -98,6 +98,7 @@ refusal_again (refusal.MissingCalendar name) h = refl
 refusal_again (refusal.Cyclic name) h = refl
 refusal_again (refusal.TooLarge name) h = refl
 refusal_again (refusal.NoDay day) h = ap (λ r. refusal.NoDay (day_said r)) (day_read_again day h)
+refusal_again (refusal.NoCosts name) h = refl
 refusal_again refusal.ReadOnly h = refl
 
 pub refusals_differ : (a b : Refusal) → refusal_has_names a ≡ true → refusal_has_names b ≡ true → refusal_words a ≡ refusal_words b → a ≡ b

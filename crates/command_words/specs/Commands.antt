@@ -10,6 +10,8 @@ use Rattle.plan_schema.specs.declared.change.CellName.{CellName}
 use Rattle.plan_schema.specs.declared.change.CellName.TheVariants as cells
 use Rattle.row_text.specs.Row as rows
 use Rattle.row_text.specs.Row.{◌>>=◌, text_at, name_at, number_at, day_at, end_at}
+use Rattle.query_language.specs.Reading.{check_of}
+use Rattle.query_language.specs.declared.fault.QueryFault.{QueryFault}
 use Rattle.command_words.specs.Words.{words_of, query_of}
 use Rattle.command_words.specs.Verbs.{verb_of}
 use Rattle.command_words.specs.declared.verb.Verb.{Verb}
@@ -167,13 +169,28 @@ peg_of words = do
   _ ← end_at words 4
   Ok (commands.Peg scenario part day)
 
+-- TRACE: scenario; part; date
+unfoldable pub trace_of : List (List ℕ) → Result Command FieldFault
+trace_of words = do
+  scenario ← name_at words 1
+  part ← name_at words 2
+  day ← day_at words 3
+  _ ← end_at words 4
+  Ok (commands.Trace scenario part day)
+
+-- COST: scenario; part
+unfoldable pub cost_of : List (List ℕ) → Result Command FieldFault
+cost_of words = do
+  names ← two_names words
+  Ok (commands.Cost names.0 names.1)
+
 -- ATP: scenario; part
 unfoldable pub atp_of : List (List ℕ) → Result Command FieldFault
 atp_of words = do
   names ← two_names words
   Ok (commands.Atp names.0 names.1)
 
--- SELECT: scenario; query, which is the rest of the line and mustn't be missing. It isn't looked into here
+-- SELECT: scenario; query, which is the rest of the line and mustn't be missing
 unfoldable pub select_of : List ℕ → List (List ℕ) → Result Command FieldFault
 select_of line words = do
   scenario ← name_at words 1
@@ -211,14 +228,26 @@ command_of_verb verbs.Show line words = show_of words
 command_of_verb verbs.Level line words = level_of words
 command_of_verb verbs.Plan line words = plan_of words
 command_of_verb verbs.Peg line words = peg_of words
+command_of_verb verbs.Trace line words = trace_of words
+command_of_verb verbs.Cost line words = cost_of words
 command_of_verb verbs.Atp line words = atp_of words
 command_of_verb verbs.Select line words = select_of line words
 command_of_verb verbs.Reclaim line words = reclaim_of words
 command_of_verb verbs.Quit line words = quit_of words
 
--- a fault of a field is a fault of the line
+-- a fault of a query is a fault of the line
+abbrev pub with_query : Result (Unit {0}) QueryFault → Command → Result Command Bad
+with_query (Ok _) command = Ok command
+with_query (Err fault) command = Err (bads.Query fault)
+
+-- a query must be one of the language
+abbrev pub in_query : Command → Result Command Bad
+in_query (commands.Select scenario query) = with_query (check_of query) (commands.Select scenario query)
+in_query command = Ok command
+
+-- a fault of a field is a fault of the line; the query is looked into last
 abbrev pub in_fields : Result Command FieldFault → Result Command Bad
-in_fields (Ok command) = Ok command
+in_fields (Ok command) = in_query command
 in_fields (Err fault) = Err (bads.Field fault)
 
 -- a first word that is no command

@@ -119,6 +119,7 @@ refusal_has_names (refusal.MissingCalendar name) = is_name name
 refusal_has_names (refusal.Cyclic name) = is_name name
 refusal_has_names (refusal.TooLarge name) = is_name name
 refusal_has_names (refusal.NoDay day) = is_day day
+refusal_has_names (refusal.NoCosts name) = is_name name
 refusal_has_names refusal.ReadOnly = true
 
 -- a number that 32 bits hold
@@ -129,6 +130,7 @@ abbrev pub bad_is_small : Bad → Bool
 bad_is_small bad.Long = true
 bad_is_small bad.Word = true
 bad_is_small (bad.Field fault) = is_small fault.field
+bad_is_small (bad.Query fault) = is_small fault.place
 bad_is_small (bad.Row row fault) = is_small row && is_small fault.field
 bad_is_small (bad.RowLong row) = is_small row
 bad_is_small bad.Short = true

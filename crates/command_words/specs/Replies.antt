@@ -9,6 +9,8 @@ use Rattle.plan_schema.specs.declared.refusal.Room.TheVariants as room
 use Rattle.plan_schema.specs.declared.refusal.Refusal.{Refusal}
 use Rattle.plan_schema.specs.declared.refusal.Refusal.TheVariants as refusal
 use Rattle.row_text.specs.Spelling.{words_text, key_fields}
+use Rattle.query_language.specs.declared.fault.QueryRule.{QueryRule}
+use Rattle.query_language.specs.declared.fault.QueryRule.TheVariants as query_rule
 use Rattle.command_words.specs.declared.reply.Bad.{Bad}
 use Rattle.command_words.specs.declared.reply.Bad.TheVariants as bad
 use Rattle.command_words.specs.declared.reply.Reply.{Reply}
@@ -42,6 +44,7 @@ refusal_words (refusal.MissingCalendar name) = codes "missing-calendar" ∷ name
 refusal_words (refusal.Cyclic name) = codes "cyclic" ∷ name ∷ []
 refusal_words (refusal.TooLarge name) = codes "too-large" ∷ name ∷ []
 refusal_words (refusal.NoDay day) = codes "no-day" ∷ day_text day ∷ []
+refusal_words (refusal.NoCosts name) = codes "no-costs" ∷ name ∷ []
 refusal_words refusal.ReadOnly = codes "read-only" ∷ []
 
 abbrev pub rule_word : Rule → List ℕ
@@ -50,11 +53,18 @@ rule_word rule.Range = codes "range"
 rule_word rule.Date = codes "date"
 rule_word rule.Own = codes "self"
 
+abbrev pub query_rule_word : QueryRule → List ℕ
+query_rule_word query_rule.Word = codes "word"
+query_rule_word query_rule.End = codes "end"
+query_rule_word query_rule.Deep = codes "deep"
+query_rule_word query_rule.Many = codes "many"
+
 -- why a request isn't in the grammar
 unfoldable pub bad_words : Bad → List (List ℕ)
 bad_words bad.Long = codes "long" ∷ []
 bad_words bad.Word = codes "word" ∷ []
 bad_words (bad.Field fault) = codes "field" ∷ decimal fault.field ∷ rule_word fault.rule ∷ []
+bad_words (bad.Query fault) = codes "query" ∷ decimal fault.place ∷ query_rule_word fault.rule ∷ []
 bad_words (bad.Row row fault) = codes "row" ∷ decimal row ∷ decimal fault.field ∷ rule_word fault.rule ∷ []
 bad_words (bad.RowLong row) = codes "row" ∷ decimal row ∷ codes "long" ∷ []
 bad_words bad.Short = codes "short" ∷ []

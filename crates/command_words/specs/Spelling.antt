@@ -1,5 +1,5 @@
 -- The one spelling of each command, and which commands it can spell.
-use Rattle.std.specs.Prelude.{ℕ, Bool, true, false, not, ◌&&◌, nat_le, List, [], ◌∷◌, reverse, decimal, codes}
+use Rattle.std.specs.Prelude.{ℕ, Bool, true, false, not, ◌&&◌, nat_le, List, [], ◌∷◌, reverse, decimal, codes, is_ok}
 use Rattle.plan_schema.specs.declared.change.CellName.{CellName}
 use Rattle.plan_schema.specs.declared.change.CellName.TheVariants as cells
 use Rattle.plan_schema.specs.declared.key.Key.TheVariants as keys
@@ -10,6 +10,7 @@ use Rattle.plan_schema.specs.Sound.{is_sound_key, is_sound_row}
 use Rattle.row_text.specs.Spelling.{words_text, key_fields, row_fields}
 use Rattle.command_words.specs.Words.{is_word_byte, words_of}
 use Rattle.command_words.specs.Verbs.{verb_word}
+use Rattle.query_language.specs.Reading.{check_of}
 use Rattle.command_words.specs.declared.verb.Verb.TheVariants as verbs
 use Rattle.command_words.specs.declared.command.Command.{Command}
 use Rattle.command_words.specs.declared.command.Command.TheVariants as commands
@@ -36,7 +37,9 @@ words_of_command (commands.Show scenario cell) = verb_word verbs.Show ∷ scenar
 words_of_command (commands.Level scenario part) = verb_word verbs.Level ∷ scenario ∷ part ∷ []
 words_of_command (commands.Plan scenario part) = verb_word verbs.Plan ∷ scenario ∷ part ∷ []
 words_of_command (commands.Peg scenario part day) = verb_word verbs.Peg ∷ scenario ∷ part ∷ day_text day ∷ []
+words_of_command (commands.Trace scenario part day) = verb_word verbs.Trace ∷ scenario ∷ part ∷ day_text day ∷ []
 words_of_command (commands.Atp scenario part) = verb_word verbs.Atp ∷ scenario ∷ part ∷ []
+words_of_command (commands.Cost scenario part) = verb_word verbs.Cost ∷ scenario ∷ part ∷ []
 words_of_command (commands.Select scenario query) = verb_word verbs.Select ∷ scenario ∷ words_of query
 words_of_command commands.Reclaim = verb_word verbs.Reclaim ∷ []
 words_of_command commands.Quit = verb_word verbs.Quit ∷ []
@@ -54,13 +57,17 @@ begins_with_word (byte ∷ _) = is_word_byte byte
 abbrev pub is_query_text : List ℕ → Bool
 is_query_text query = begins_with_word query && begins_with_word (reverse query)
 
+-- a text of the language of queries
+abbrev pub is_query : List ℕ → Bool
+is_query query = is_ok (check_of query)
+
 abbrev pub cell_has_name : CellName → Bool
 cell_has_name cells.Plan = true
 cell_has_name (cells.Cal name) = is_name name
 cell_has_name (cells.Part name) = is_name name
 
 -- a sound command: its names are names, the row of a PUT is sound, the key of a DEL is one that a row can have and not the horizon's,
--- a LOAD has 1 to 1,000 rows, and a query begins and ends with words
+-- a LOAD has 1 to 1,000 rows, and a query begins and ends with words and is one of the language
 abbrev pub is_sound_command : Command → Bool
 is_sound_command (commands.Hello user) = is_name user
 is_sound_command commands.Point = true
@@ -77,7 +84,9 @@ is_sound_command (commands.Show scenario cell) = is_name scenario && cell_has_na
 is_sound_command (commands.Level scenario part) = is_name scenario && is_name part
 is_sound_command (commands.Plan scenario part) = is_name scenario && is_name part
 is_sound_command (commands.Peg scenario part day) = is_name scenario && (is_name part && is_day day)
+is_sound_command (commands.Trace scenario part day) = is_name scenario && (is_name part && is_day day)
 is_sound_command (commands.Atp scenario part) = is_name scenario && is_name part
-is_sound_command (commands.Select scenario query) = is_name scenario && is_query_text query
+is_sound_command (commands.Cost scenario part) = is_name scenario && is_name part
+is_sound_command (commands.Select scenario query) = is_name scenario && (is_query_text query && is_query query)
 is_sound_command commands.Reclaim = true
 is_sound_command commands.Quit = true

@@ -22,7 +22,9 @@ verb_word verbs.Show = codes "SHOW"
 verb_word verbs.Level = codes "LEVEL"
 verb_word verbs.Plan = codes "PLAN"
 verb_word verbs.Peg = codes "PEG"
+verb_word verbs.Trace = codes "TRACE"
 verb_word verbs.Atp = codes "ATP"
+verb_word verbs.Cost = codes "COST"
 verb_word verbs.Select = codes "SELECT"
 verb_word verbs.Reclaim = codes "RECLAIM"
 verb_word verbs.Quit = codes "QUIT"
@@ -31,7 +33,7 @@ verb_word verbs.Quit = codes "QUIT"
 abbrev pub all_verbs : List Verb
 all_verbs =
     verbs.Hello ∷ verbs.Point ∷ verbs.Put ∷ verbs.Del ∷ verbs.Load ∷ verbs.Branch ∷ verbs.Share ∷ verbs.Update ∷ verbs.Commit
-    ∷ verbs.Drop ∷ verbs.Tree ∷ verbs.Show ∷ verbs.Level ∷ verbs.Plan ∷ verbs.Peg ∷ verbs.Atp ∷ verbs.Select ∷ verbs.Reclaim
+    ∷ verbs.Drop ∷ verbs.Tree ∷ verbs.Show ∷ verbs.Level ∷ verbs.Plan ∷ verbs.Peg ∷ verbs.Trace ∷ verbs.Atp ∷ verbs.Cost ∷ verbs.Select ∷ verbs.Reclaim
     ∷ verbs.Quit ∷ []
 
 -- the verb that a word is, letter by letter

@@ -3,7 +3,7 @@ use crate::query::QueryText;
 use plan_schema::{CellName, Day, Key, Name, Record};
 
 /// What a session asks for, read from a line that lives for `'a`.
-#[derive(Debug, Drop, PartialEq, Eq)]
+#[derive(Drop)]
 pub enum Command<'a> {
     /// States who speaks from now on.
     Hello(Name),
@@ -54,13 +54,24 @@ pub enum Command<'a> {
         part: Name,
         day: Day,
     },
+    /// For which independent demands the planned receipt of a part on a day is meant.
+    Trace {
+        scenario: Name,
+        part: Name,
+        day: Day,
+    },
     /// What can be promised of a part on each day.
     Atp {
         scenario: Name,
         part: Name,
     },
-    /// The parts that meet a condition, with some of their figures. The query's text is kept as it stands in the line, and isn't
-    /// looked into.
+    /// What a part's orders cost, and why no others cost less.
+    Cost {
+        scenario: Name,
+        part: Name,
+    },
+    /// The parts that meet a condition, with some of their figures. The query is in the language, and its text is kept as it stands
+    /// in the line.
     Select {
         scenario: Name,
         query: QueryText<'a>,

@@ -249,6 +249,29 @@ pub(crate) fn peg<'a>(words: &[&'a [u8]]) -> Result<Command<'a>, FieldFault>
     })
 }
 
+#[tactic(auto, unfolding(crate::specs::Commands::trace_of))]
+pub(crate) fn trace<'a>(words: &[&'a [u8]]) -> Result<Command<'a>, FieldFault>
+    ensures { result ≡ spec.trace_of (texts words.now) }
+{
+    let scenario = name_at(words, 1)?;
+    let part = name_at(words, 2)?;
+    let day = day_at(words, 3)?;
+    end_at(words, 4)?;
+    Ok(Command::Trace {
+        scenario,
+        part,
+        day,
+    })
+}
+
+#[tactic(auto, unfolding(crate::specs::Commands::cost_of))]
+pub(crate) fn cost<'a>(words: &[&'a [u8]]) -> Result<Command<'a>, FieldFault>
+    ensures { result ≡ spec.cost_of (texts words.now) }
+{
+    let (scenario, part) = two_names(words)?;
+    Ok(Command::Cost { scenario, part })
+}
+
 #[tactic(auto, unfolding(crate::specs::Commands::atp_of))]
 pub(crate) fn atp<'a>(words: &[&'a [u8]]) -> Result<Command<'a>, FieldFault>
     ensures { result ≡ spec.atp_of (texts words.now) }

@@ -26,6 +26,3 @@ pub use query::QueryText;
 pub use read::{Words, read_line, read_row, words_in};
 pub use reply::{Bad, Reply};
 pub use write::{room_bytes, rule_bytes, write_reply};
-
-#[cfg(test)]
-mod tests;

@@ -1,7 +1,5 @@
 //! The text of a query inside its line.
-ghost use Rattle.std.specs.Prelude.{◌≡◌, ◌≤◌, nat_eq, length};
-ghost use Rattle.std.specs.Cmp.{partial_equiv_from_equiv};
-ghost use Rattle.std.specs.Cmp.Lexicographic.{pointwise, nat_list_eq_equiv};
+ghost use Rattle.std.specs.Prelude.{◌≡◌, ◌≤◌, length};
 ghost use Rattle.std.specs.List.{prefix_len, suffix_len};
 ghost use Rattle.command_words.specs.Words as spec;
 ghost use Rattle.command_words.specs.Words.{is_space, is_word_byte};
@@ -9,7 +7,7 @@ ghost use Rattle.command_words.specs.Words.{is_space, is_word_byte};
 use std::marker::Model;
 
 /// The text of a query: at most 1,024 bytes of a line. It begins and ends with bytes that are neither spaces nor tabs.
-#[derive(Debug, Drop)]
+#[derive(Drop)]
 pub struct QueryText<'a> {
     bytes: &'a [u8],
 }
@@ -22,20 +20,6 @@ impl<'a> Model for QueryText<'a> {
     ghost view = { λ query. query.bytes.now };
 
     ghost invariant = { λ query. length query.bytes.now ≤ 1024 };
-}
-
-impl<'a> PartialEq for QueryText<'a> {
-    ghost eq = { pointwise nat_eq };
-
-    ghost laws = { partial_equiv_from_equiv nat_list_eq_equiv };
-
-    fn eq(&self, other: &QueryText<'a>) -> bool {
-        self.as_bytes() == other.as_bytes()
-    }
-}
-
-impl<'a> Eq for QueryText<'a> {
-    ghost laws = { nat_list_eq_equiv };
 }
 
 impl<'a> QueryText<'a> {

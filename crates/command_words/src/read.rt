@@ -15,6 +15,7 @@ use crate::reply::Bad;
 use crate::verb::Verb;
 use arrayvec::ArrayVec;
 use plan_schema::{FieldFault, Key, Record};
+use query_language::check_query;
 use row_text::{read_record, text_at};
 
 /// The words of a line: one of at most 1,024 bytes has at most 512.
@@ -83,14 +84,26 @@ fn command_of_word<'a>(word: &[u8], line: &'a [u8], words: &[&'a [u8]]) -> Resul
     }
 }
 
-/// A fault of a field as a fault of the line.
+/// A fault of a field, or else of the query, as a fault of the line.
 fn in_fields<'a>(command: Result<Command<'a>, FieldFault>) -> Result<Command<'a>, Bad>
     ensures { result ≡ spec.in_fields command.entry }
 {
     match command {
-        Ok(command) => Ok(command),
+        Ok(command) => in_query(command),
         Err(fault) => Err(Bad::Field(fault)),
     }
+}
+
+/// The command, where it asks no query or one of the language.
+fn in_query<'a>(command: Command<'a>) -> Result<Command<'a>, Bad>
+    ensures { result ≡ spec.in_query command.entry }
+{
+    if let Command::Select { query, .. } = &command {
+        if let Err(fault) = check_query(query.as_bytes()) {
+            return Err(Bad::Query(fault));
+        }
+    }
+    Ok(command)
 }
 
 #[tactic(auto, unfolding(crate::specs::Commands::command_of_verb))]
@@ -118,7 +131,9 @@ fn command_of_verb<'a>(
         Verb::Level => fields::level(words),
         Verb::Plan => fields::plan(words),
         Verb::Peg => fields::peg(words),
+        Verb::Trace => fields::trace(words),
         Verb::Atp => fields::atp(words),
+        Verb::Cost => fields::cost(words),
         Verb::Select => fields::select(line, words),
         Verb::Reclaim => fields::reclaim(words),
         Verb::Quit => fields::quit(words),

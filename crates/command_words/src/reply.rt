@@ -1,9 +1,10 @@
 //! Replies.
 use crate::lines::Lines;
 use plan_schema::{FieldFault, Refusal};
+use query_language::QueryFault;
 
 /// Why a request isn't in the grammar.
-#[derive(Clone, Copy, Debug, PartialEq, Eq)]
+#[derive(Clone, Copy)]
 pub enum Bad {
     /// The line has more than 1,024 bytes.
     Long,
@@ -11,6 +12,8 @@ pub enum Bad {
     Word,
     /// The first faulty field, counted from 1 after the command word.
     Field(FieldFault),
+    /// The first token of a query that no query continues.
+    Query(QueryFault),
     /// The first bad row of a LOAD, counted from 1, with its first faulty field.
     Row(u32, FieldFault),
     /// The first bad row of a LOAD, which is too long.

@@ -5,7 +5,7 @@ ghost use Rattle.command_words.specs.Verbs as spec;
 use row_text::is_word;
 
 /// What a command does, as its first word says.
-#[derive(Clone, Copy, Debug)]
+#[derive(Clone, Copy)]
 pub(crate) enum Verb {
     Hello,
     Point,
@@ -22,13 +22,15 @@ pub(crate) enum Verb {
     Level,
     Plan,
     Peg,
+    Trace,
     Atp,
+    Cost,
     Select,
     Reclaim,
     Quit,
 }
 
-const VERBS: [Verb; 19] = [
+const VERBS: [Verb; 21] = [
     Verb::Hello,
     Verb::Point,
     Verb::Put,
@@ -44,7 +46,9 @@ const VERBS: [Verb; 19] = [
     Verb::Level,
     Verb::Plan,
     Verb::Peg,
+    Verb::Trace,
     Verb::Atp,
+    Verb::Cost,
     Verb::Select,
     Verb::Reclaim,
     Verb::Quit,
@@ -82,7 +86,9 @@ impl Verb {
             Verb::Level => b"LEVEL",
             Verb::Plan => b"PLAN",
             Verb::Peg => b"PEG",
+            Verb::Trace => b"TRACE",
             Verb::Atp => b"ATP",
+            Verb::Cost => b"COST",
             Verb::Select => b"SELECT",
             Verb::Reclaim => b"RECLAIM",
             Verb::Quit => b"QUIT",

@@ -5,13 +5,14 @@ ghost use Rattle.plan_schema.specs.Outside.{Wrote};
 ghost use Rattle.row_text.specs.Spelling.{spaced, words_text};
 ghost use Rattle.command_words.specs.Pages.{Gathered};
 ghost use Rattle.command_words.specs.Replies as spec;
-ghost use Rattle.command_words.specs.Replies.{ended, room_word, rule_word, refusal_words, bad_words, head_words, point_word, reply_text};
+ghost use Rattle.command_words.specs.Replies.{ended, room_word, rule_word, query_rule_word, refusal_words, bad_words, head_words, point_word, reply_text};
 
 use crate::page::{Page, flush, put, put_lines};
 use crate::reply::{Bad, Reply};
 use byte_lines::{Sink, SinkFault};
 use itoa::Buffer;
 use plan_schema::{Name, Refusal, Room, Rule};
+use query_language::QueryRule;
 use row_text::{RowText, key_bytes, push_day, push_number, push_word};
 
 /// Writes the one spelling of a reply: by one call of the sink where it has at most 4,096 bytes. Takes no memory.
@@ -133,6 +134,7 @@ fn push_refusal(text: &mut RowText, refusal: &Refusal)
             push_word(text, b"no-day");
             push_day(text, day);
         }
+        Refusal::NoCosts(name) => push_about(text, b"no-costs", name),
         Refusal::ReadOnly => push_word(text, b"read-only"),
     }
 }
@@ -175,6 +177,19 @@ pub fn rule_bytes(rule: Rule) -> &'static [u8]
     }
 }
 
+/// The word for why a text is no query.
+fn query_rule_bytes(rule: QueryRule) -> &'static [u8]
+    ensures word { result.now ≡ query_rule_word rule }
+    ensures short { length result.now ≤ 20 }
+{
+    match rule {
+        QueryRule::Word => b"word",
+        QueryRule::End => b"end",
+        QueryRule::Deep => b"deep",
+        QueryRule::Many => b"many",
+    }
+}
+
 /// Adds why a request isn't in the grammar, each word behind a space.
 #[tactic(auto, unfolding(crate::specs::Replies::bad_words))]
 fn push_bad(text: &mut RowText, bad: &Bad)
@@ -189,6 +204,11 @@ fn push_bad(text: &mut RowText, bad: &Bad)
             push_word(text, b"field");
             push_number(text, u64::from(fault.field));
             push_word(text, rule_bytes(fault.rule));
+        }
+        Bad::Query(fault) => {
+            push_word(text, b"query");
+            push_number(text, u64::from(fault.place));
+            push_word(text, query_rule_bytes(fault.rule));
         }
         Bad::Row(row, fault) => {
             push_word(text, b"row");

@@ -31,4 +31,4 @@ WhereLarge Memory P = Unit {0}
 
 -- the outcome of a step
 abbrev pub told : Outcome → Lists
-told o = record { gross = o.gross; sched = o.sched; planned = o.planned; balance = o.balance; release = o.release.value; late = o.late }
+told o = record { gross = o.gross; sched = o.sched; planned = o.planned; balance = o.balance; release = o.release; late = o.late }

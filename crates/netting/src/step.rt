@@ -10,9 +10,8 @@ ghost use Rattle.netting.specs.Windows.{looked};
 
 use lot_sizing::lot;
 use plan_calendar::Calendar;
-use plan_schema::{Lot, NetFault, Outcome, Qty, Quantities, Series, Steps};
+use plan_schema::{Lot, NetFault, Outcome, Qty, Quantities, Release, Series, Steps};
 use std::alloc::{AllocError, Global};
-use std::sync::Arc;
 use std::sync::ledger::Ledger;
 
 /// What a part's step starts from.
@@ -233,7 +232,7 @@ pub fn net<L: Ledger>(
     let Ok(sched) = input.sched.copy() else {
         return Err(NetFault::Memory);
     };
-    let Ok(release) = Arc::new(alloc, Series::from_vec(release)) else {
+    let Ok(release) = Release::new(alloc, release) else {
         return Err(NetFault::Memory);
     };
     let Days { planned, balance } = days;

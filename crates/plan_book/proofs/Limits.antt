@@ -10,7 +10,8 @@ use Rattle.plan_schema.specs.declared.key.Key.{Key}
 use Rattle.plan_schema.specs.declared.key.Key.TheVariants as keys
 use Rattle.plan_schema.specs.declared.key.Record.{Record}
 use Rattle.plan_schema.specs.Key.{key_cmp}
-use Rattle.plan_schema.specs.Base.{is_base, is_part_key, part_count, part_limit, record_limit, has_horizon}
+use Rattle.plan_schema.specs.Base.{is_base, is_part_key, part_count, has_horizon}
+use Rattle.plan_schema.specs.declared.limits.TheConstants.{PART_LIMIT, RECORD_LIMIT}
 use Rattle.plan_schema.specs.Contents.{Contents, record_at, with_record, without_key, is_ordered}
 use Rattle.plan_schema.specs.Sound.{are_sound_rows}
 use Rattle.scenario_rules.specs.Refused.{is_part_row}
@@ -24,16 +25,16 @@ pub record IsBase (c : Contents) : Type 0 where
   pub ordered : is_ordered c ≡ true
   pub sound : are_sound_rows c ≡ true
   pub horizon : has_horizon c ≡ true
-  pub parts : part_count c ≤ part_limit
-  pub records : length c ≤ record_limit
+  pub parts : part_count c ≤ PART_LIMIT
+  pub records : length c ≤ RECORD_LIMIT
 
 pub base_parts : (c : Contents) → is_base c ≡ true → IsBase c
 base_parts c h =
-    let first = and_parts (is_ordered c && are_sound_rows c && has_horizon c && nat_le (part_count c) part_limit) (nat_le (length c) record_limit) h in
-    let second = and_parts (is_ordered c && are_sound_rows c && has_horizon c) (nat_le (part_count c) part_limit) first.0 in
+    let first = and_parts (is_ordered c && are_sound_rows c && has_horizon c && nat_le (part_count c) PART_LIMIT) (nat_le (length c) RECORD_LIMIT) h in
+    let second = and_parts (is_ordered c && are_sound_rows c && has_horizon c) (nat_le (part_count c) PART_LIMIT) first.0 in
     let third = and_parts (is_ordered c && are_sound_rows c) (has_horizon c) second.0 in
     let last = and_parts (is_ordered c) (are_sound_rows c) third.0 in
-    record { ordered = last.0; sound = last.1; horizon = third.1; parts = at_most (part_count c) part_limit second.1; records = at_most (length c) record_limit first.1 }
+    record { ordered = last.0; sound = last.1; horizon = third.1; parts = at_most (part_count c) PART_LIMIT second.1; records = at_most (length c) RECORD_LIMIT first.1 }
   where
     at_most : (n most : ℕ) → nat_le n most ≡ true → n ≤ most
     at_most n most h = grind (arith, nat_tests)
@@ -52,11 +53,11 @@ part_counts c = ap (λ test. count_by test c) part_rows
 -- contents that are whole and within the limits are a base
 pub whole_is_base : (c : Contents) → AreWholeContents c → AreWithinLimits c → is_base c ≡ true
 whole_is_base c whole limits =
-    and_from (is_ordered c && are_sound_rows c && has_horizon c && nat_le (part_count c) part_limit) (nat_le (length c) record_limit)
-    (and_from (is_ordered c && are_sound_rows c && has_horizon c) (nat_le (part_count c) part_limit)
+    and_from (is_ordered c && are_sound_rows c && has_horizon c && nat_le (part_count c) PART_LIMIT) (nat_le (length c) RECORD_LIMIT)
+    (and_from (is_ordered c && are_sound_rows c && has_horizon c) (nat_le (part_count c) PART_LIMIT)
     (and_from (is_ordered c && are_sound_rows c) (has_horizon c) (and_from (is_ordered c) (are_sound_rows c) whole.ordered whole.sound) whole.horizon)
-    (passes (part_count c) part_limit (let few = limits.parts in let same = part_counts c in omega arith)))
-    (passes (length c) record_limit limits.records)
+    (passes (part_count c) PART_LIMIT (let few = limits.parts in let same = part_counts c in omega arith)))
+    (passes (length c) RECORD_LIMIT limits.records)
   where
     passes : (n most : ℕ) → n ≤ most → nat_le n most ≡ true
     passes n most h = grind (arith, nat_tests)

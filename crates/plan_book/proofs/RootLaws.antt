@@ -12,7 +12,8 @@ use Rattle.plan_schema.specs.declared.change.Entry.{Entry}
 use Rattle.plan_schema.specs.declared.refusal.Refusal.{Refusal}
 use Rattle.plan_schema.specs.declared.refusal.Refusal.TheVariants as refusals
 use Rattle.plan_schema.specs.declared.refusal.Room.TheVariants as rooms
-use Rattle.plan_schema.specs.Base.{is_base, part_count, part_limit, record_limit}
+use Rattle.plan_schema.specs.Base.{is_base, part_count}
+use Rattle.plan_schema.specs.declared.limits.TheConstants.{PART_LIMIT, RECORD_LIMIT}
 use Rattle.plan_schema.specs.Contents.{Contents, record_at, with_record, without_key}
 use Rattle.plan_schema.specs.Sound.{is_sound_entry}
 use Rattle.plan_schema.specs.Refusals.{first_of, where_so}
@@ -51,14 +52,14 @@ skip (Some r) os = refl
 
 -- what a PUT to the root, and a DEL, are refused for
 root_put : (c : Contents) (user : Name) (key : Key) (value : Record) → scenario_refusal (begin_with c) user (changes.Put root key value)
-    ≡ first_of (where_so (nat_lt part_limit (count_by is_part_row (with_record c key value))) (refusals.Full rooms.Parts)
-    ∷ where_so (nat_lt record_limit (length (with_record c key value))) (refusals.Full rooms.Records) ∷ [])
+    ≡ first_of (where_so (nat_lt PART_LIMIT (count_by is_part_row (with_record c key value))) (refusals.Full rooms.Parts)
+    ∷ where_so (nat_lt RECORD_LIMIT (length (with_record c key value))) (refusals.Full rooms.Records) ∷ [])
 root_put c user key value = refl
 
 root_del : (c : Contents) (user : Name) (key : Key) → scenario_refusal (begin_with c) user (changes.Del root key)
     ≡ first_of (where_so (is_none (record_at c key)) (refusals.NoRecord key)
-    ∷ where_so (nat_lt part_limit (count_by is_part_row (without_key c key))) (refusals.Full rooms.Parts)
-    ∷ where_so (nat_lt record_limit (length (without_key c key))) (refusals.Full rooms.Records) ∷ [])
+    ∷ where_so (nat_lt PART_LIMIT (count_by is_part_row (without_key c key))) (refusals.Full rooms.Parts)
+    ∷ where_so (nat_lt RECORD_LIMIT (length (without_key c key))) (refusals.Full rooms.Records) ∷ [])
 root_del c user key = skip (where_so (is_none (record_at c key)) (refusals.NoRecord key)) _
 
 flat : (os : List (Option Refusal)) (last : Option Refusal) → first_of (first_of os ∷ last ∷ []) ≡ first_of (os ++ last ∷ [])
@@ -68,31 +69,31 @@ flat (Some r ∷ os) last = refl
 
 put_refused : (base : Contents) (history : List Entry) (c : Contents) (user s : Name) (key : Key) (value : Record) → world_after base history ≡ begin_with c → is_root s ≡ true
     → refused base history user (changes.Put s key value)
-    ≡ first_of (where_so (nat_lt part_limit (part_count (with_record c key value))) (refusals.Full rooms.Parts)
-    ∷ where_so (nat_lt record_limit (length (with_record c key value))) (refusals.Full rooms.Records) ∷ full_journal history (changes.Put s key value) ∷ [])
+    ≡ first_of (where_so (nat_lt PART_LIMIT (part_count (with_record c key value))) (refusals.Full rooms.Parts)
+    ∷ where_so (nat_lt RECORD_LIMIT (length (with_record c key value))) (refusals.Full rooms.Records) ∷ full_journal history (changes.Put s key value) ∷ [])
 put_refused base history c user s key value shown h =
     let last = full_journal history (changes.Put s key value) in
-    let records = where_so (nat_lt record_limit (length (with_record c key value))) (refusals.Full rooms.Records) in
+    let records = where_so (nat_lt RECORD_LIMIT (length (with_record c key value))) (refusals.Full rooms.Records) in
     let at : scenario_refusal (begin_with c) user (changes.Put s key value) ≡ scenario_refusal (begin_with c) user (changes.Put root key value) = ap (λ n. scenario_refusal (begin_with c) user (changes.Put n key value)) (one_name s root h) in
     (λ i. first_of (scenario_refusal (shown i) user (changes.Put s key value) ∷ last ∷ []))
     ∙ ap (λ o. first_of (o ∷ last ∷ [])) (at ∙ root_put c user key value)
-    ∙ ap (λ n. first_of (first_of (where_so (nat_lt part_limit n) (refusals.Full rooms.Parts) ∷ records ∷ []) ∷ last ∷ [])) (part_counts (with_record c key value))
-    ∙ flat (where_so (nat_lt part_limit (part_count (with_record c key value))) (refusals.Full rooms.Parts) ∷ records ∷ []) last
+    ∙ ap (λ n. first_of (first_of (where_so (nat_lt PART_LIMIT n) (refusals.Full rooms.Parts) ∷ records ∷ []) ∷ last ∷ [])) (part_counts (with_record c key value))
+    ∙ flat (where_so (nat_lt PART_LIMIT (part_count (with_record c key value))) (refusals.Full rooms.Parts) ∷ records ∷ []) last
 
 del_refused : (base : Contents) (history : List Entry) (c : Contents) (user s : Name) (key : Key) → world_after base history ≡ begin_with c → is_root s ≡ true
     → refused base history user (changes.Del s key)
     ≡ first_of (where_so (is_none (record_at c key)) (refusals.NoRecord key)
-    ∷ where_so (nat_lt part_limit (part_count (without_key c key))) (refusals.Full rooms.Parts)
-    ∷ where_so (nat_lt record_limit (length (without_key c key))) (refusals.Full rooms.Records) ∷ full_journal history (changes.Del s key) ∷ [])
+    ∷ where_so (nat_lt PART_LIMIT (part_count (without_key c key))) (refusals.Full rooms.Parts)
+    ∷ where_so (nat_lt RECORD_LIMIT (length (without_key c key))) (refusals.Full rooms.Records) ∷ full_journal history (changes.Del s key) ∷ [])
 del_refused base history c user s key shown h =
     let last = full_journal history (changes.Del s key) in
     let first = where_so (is_none (record_at c key)) (refusals.NoRecord key) in
-    let records = where_so (nat_lt record_limit (length (without_key c key))) (refusals.Full rooms.Records) in
+    let records = where_so (nat_lt RECORD_LIMIT (length (without_key c key))) (refusals.Full rooms.Records) in
     let at : scenario_refusal (begin_with c) user (changes.Del s key) ≡ scenario_refusal (begin_with c) user (changes.Del root key) = ap (λ n. scenario_refusal (begin_with c) user (changes.Del n key)) (one_name s root h) in
     (λ i. first_of (scenario_refusal (shown i) user (changes.Del s key) ∷ last ∷ []))
     ∙ ap (λ o. first_of (o ∷ last ∷ [])) (at ∙ root_del c user key)
-    ∙ ap (λ n. first_of (first_of (first ∷ where_so (nat_lt part_limit n) (refusals.Full rooms.Parts) ∷ records ∷ []) ∷ last ∷ [])) (part_counts (without_key c key))
-    ∙ flat (first ∷ where_so (nat_lt part_limit (part_count (without_key c key))) (refusals.Full rooms.Parts) ∷ records ∷ []) last
+    ∙ ap (λ n. first_of (first_of (first ∷ where_so (nat_lt PART_LIMIT n) (refusals.Full rooms.Parts) ∷ records ∷ []) ∷ last ∷ [])) (part_counts (without_key c key))
+    ∙ flat (first ∷ where_so (nat_lt PART_LIMIT (part_count (without_key c key))) (refusals.Full rooms.Parts) ∷ records ∷ []) last
 
 has_room : (most n : ℕ) (r : Refusal) → n ≤ most → where_so (nat_lt most n) r ≡ None
 has_room most n r h = ap (λ t. where_so t r) (let within : nat_lt most n ≡ false = grind (arith, nat_tests) in within)
@@ -102,12 +103,12 @@ last_one None = refl
 last_one (Some r) = refl
 
 pub put_fits : (base : Contents) (history : List Entry) (c : Contents) (user s : Name) (key : Key) (value : Record) → world_after base history ≡ begin_with c → is_root s ≡ true
-    → part_count (with_record c key value) ≤ part_limit → length (with_record c key value) ≤ record_limit
+    → part_count (with_record c key value) ≤ PART_LIMIT → length (with_record c key value) ≤ RECORD_LIMIT
     → full_journal history (changes.Put s key value) ≡ refused base history user (changes.Put s key value)
 put_fits base history c user s key value shown h few short =
     let last = full_journal history (changes.Put s key value) in
     sym (put_refused base history c user s key value shown h
-    ∙ (λ i. first_of (has_room part_limit (part_count (with_record c key value)) (refusals.Full rooms.Parts) few i ∷ has_room record_limit (length (with_record c key value)) (refusals.Full rooms.Records) short i ∷ last ∷ []))
+    ∙ (λ i. first_of (has_room PART_LIMIT (part_count (with_record c key value)) (refusals.Full rooms.Parts) few i ∷ has_room RECORD_LIMIT (length (with_record c key value)) (refusals.Full rooms.Records) short i ∷ last ∷ []))
     ∙ last_one last)
 
 pub del_fits : (base : Contents) (history : List Entry) (c : Contents) (user s : Name) (key : Key) → world_after base history ≡ begin_with c → is_base c ≡ true → is_root s ≡ true
@@ -116,10 +117,10 @@ del_fits base history c user s key shown fit h there =
     let last = full_journal history (changes.Del s key) in
     let limits = base_parts c fit in
     let parts = part_count (without_key c key) in
-    let few : parts ≤ part_limit = fewer parts _ (part_count c) part_limit (parts_taken c key) limits.parts in
-    let short : length (without_key c key) ≤ record_limit = let less = length_taken c key in let most = limits.records in omega arith in
+    let few : parts ≤ PART_LIMIT = fewer parts _ (part_count c) PART_LIMIT (parts_taken c key) limits.parts in
+    let short : length (without_key c key) ≤ RECORD_LIMIT = let less = length_taken c key in let most = limits.records in omega arith in
     sym (del_refused base history c user s key shown h
-    ∙ (λ i. first_of (where_so (not (there i)) (refusals.NoRecord key) ∷ has_room part_limit parts (refusals.Full rooms.Parts) few i ∷ has_room record_limit (length (without_key c key)) (refusals.Full rooms.Records) short i ∷ last ∷ []))
+    ∙ (λ i. first_of (where_so (not (there i)) (refusals.NoRecord key) ∷ has_room PART_LIMIT parts (refusals.Full rooms.Parts) few i ∷ has_room RECORD_LIMIT (length (without_key c key)) (refusals.Full rooms.Records) short i ∷ last ∷ []))
     ∙ last_one last)
   where
     fewer : (n more all most : ℕ) → n + more ≡ all → all ≤ most → n ≤ most

@@ -35,12 +35,6 @@ pub record IsRefused (began : Ground) (before after : Story) (entry : Entry) (po
   pub same : after ≡ before
   pub point_is : point ≡ point_of began before
 
--- a change that failed: it isn't refused, and its entry may stand in the story or not
-pub record IsFailed (began : Ground) (before after : Story) (entry : Entry) (faults faults_then : ℕ) : Type 0 where
-  pub allowed : refusal_of began before entry ≡ None
-  pub rose : Rose faults faults_then
-  pub either : (after ≡ before) ⊎ (after ≡ told before entry)
-
 -- a refusal for which want of memory may stand, as for none: one for want of room in the contents or the journal. All others are found
 -- without memory
 abbrev pub yields_to_memory : Option Refusal → Bool
@@ -49,6 +43,13 @@ yields_to_memory (Some (refusals.Full rooms.Parts)) = true
 yields_to_memory (Some (refusals.Full rooms.Records)) = true
 yields_to_memory (Some (refusals.Full rooms.Journal)) = true
 yields_to_memory (Some refusal) = false
+
+-- a change that failed: no refusal but one for want of room applies, and the story is as before; or none applies, and its entry may
+-- stand in the story
+pub record IsFailed (began : Ground) (before after : Story) (entry : Entry) (faults faults_then : ℕ) : Type 0 where
+  pub late : yields_to_memory (refusal_of began before entry) ≡ true
+  pub rose : Rose faults faults_then
+  pub either : (after ≡ before) ⊎ ((refusal_of began before entry ≡ None) × (after ≡ told before entry))
 
 -- there was no memory for a change: the story is as before
 pub record IsWanting (began : Ground) (before after : Story) (entry : Entry) : Type 0 where

@@ -17,6 +17,7 @@ use crate::fault::BookFault;
 use crate::ground::Ground;
 use crate::plan_book::PlanBook;
 use plan_journal::Journal;
+use plan_schema::limits::{CARRIED_LIMIT, ENTRY_LIMIT, PART_LIMIT, RECORD_LIMIT};
 use plan_schema::{Change, Contents, Entry, Key, Name, Refusal, Room};
 use std::alloc::{AllocError, Global};
 use std::marker::Model;
@@ -24,18 +25,6 @@ use turn_table::Storied;
 
 /// The scenario that is there from the start.
 const ROOT: &[u8] = b"Baseline";
-
-/// The most parts of a scenario.
-const PART_LIMIT: usize = 10_000;
-
-/// The most records of a scenario.
-const RECORD_LIMIT: usize = 200_000;
-
-/// The most entries.
-const ENTRY_LIMIT: usize = 1_000_000;
-
-/// The most records that all entries carry.
-const CARRIED_LIMIT: u64 = 4_000_000;
 
 /// A book that keeps its entries in memory. Its root alone is there. A change looks at one record, and at no entry.
 #[derive(Drop)]

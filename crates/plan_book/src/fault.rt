@@ -6,7 +6,7 @@ use plan_schema::Refusal;
 use std::alloc::AllocError;
 
 /// Why a call of a book isn't answered.
-#[derive(Clone, Copy, Debug, PartialEq, Eq)]
+#[derive(Clone, Copy)]
 pub enum BookFault {
     /// It is refused, with the number of entries at which it is.
     Refused(u64, Refusal),

@@ -11,6 +11,3 @@ pub use book::Book;
 pub use fault::BookFault;
 pub use ground::Ground;
 pub use plan_book::PlanBook;
-
-#[cfg(test)]
-mod tests;

@@ -4,9 +4,11 @@ use Rattle.plan_schema.specs.Contents.{Contents}
 use Rattle.row_text.specs.Row.{◌>>=◌}
 use Rattle.plan_import.specs.declared.ImportFault.{ImportFault}
 use Rattle.plan_import.specs.declared.ImportFault.TheVariants.{Read, Full, Row, Twice, NoPlan, Memory}
-use Rattle.plan_import.specs.BaseFile.{byte_limit, base_records, with_numbered, with_records, within_limits, base_of_records, base_of}
+use Rattle.plan_import.specs.BaseFile.{base_records, with_numbered, with_records, within_limits, base_of_records, base_of}
 use Rattle.plan_import.specs.Imported.{Imported}
-use Rattle.plan_schema.specs.Base.{is_base, part_count, part_limit, record_limit, has_horizon}
+use Rattle.plan_schema.specs.Base.{is_base, part_count, has_horizon}
+use Rattle.plan_schema.specs.declared.limits.TheConstants.{PART_LIMIT, RECORD_LIMIT}
+use Rattle.plan_import.specs.declared.TheConstants.{BASE_BYTE_LIMIT}
 use Rattle.plan_schema.specs.declared.refusal.Room.TheVariants as room
 use Rattle.byte_lines.specs.ReadAll.{ReadAll}
 use Rattle.byte_lines.specs.declared.reading.ReadAllFault.TheVariants as large
@@ -68,7 +70,7 @@ tells_itself told (Err Memory) e never = tt
 
 limits_read : (c : Contents) → within_limits c ≡ Err Read → ⊥
 unfolding within_limits
-limits_read c h = one (nat_lt part_limit (part_count c)) (nat_lt record_limit (length c)) (has_horizon c) h
+limits_read c h = one (nat_lt PART_LIMIT (part_count c)) (nat_lt RECORD_LIMIT (length c)) (has_horizon c) h
   where
     one : (a b d : Bool) → cond a (Err (Full room.Parts)) (cond b (Err (Full room.Records)) (cond d (Ok c) (Err NoPlan))) ≡ Err Read → ⊥
     one true b d h = cc
@@ -95,17 +97,17 @@ tells_fault all Memory e = tt
 
 -- the whole import -----------------------------------------------------------------------------------------------------------
 
-small_is : (n : ℕ) → n ≤ 67108864 → nat_lt byte_limit n ≡ false
+small_is : (n : ℕ) → n ≤ BASE_BYTE_LIMIT → nat_lt BASE_BYTE_LIMIT n ≡ false
 small_is n h = grind (arith, nat_tests)
 
-large_is : (n : ℕ) → 67108864 < n → nat_lt byte_limit n ≡ true
+large_is : (n : ℕ) → BASE_BYTE_LIMIT < n → nat_lt BASE_BYTE_LIMIT n ≡ true
 large_is n h = grind (arith, nat_tests)
 
-pub base_of-small : (bytes : List ℕ) → length bytes ≤ 67108864 → base_of bytes ≡ base_of_records (base_records bytes)
+pub base_of-small : (bytes : List ℕ) → length bytes ≤ BASE_BYTE_LIMIT → base_of bytes ≡ base_of_records (base_records bytes)
 unfolding base_of
 base_of-small bytes h = ap (λ t. cond t (Err (Full room.Bytes)) (base_of_records (base_records bytes))) (small_is (length bytes) h)
 
-pub base_of-large : (bytes : List ℕ) → 67108864 < length bytes → base_of bytes ≡ Err (Full room.Bytes)
+pub base_of-large : (bytes : List ℕ) → BASE_BYTE_LIMIT < length bytes → base_of bytes ≡ Err (Full room.Bytes)
 unfolding base_of
 base_of-large bytes h = ap (λ t. cond t (Err (Full room.Bytes)) (base_of_records (base_records bytes))) (large_is (length bytes) h)
 
@@ -132,7 +134,7 @@ err_told told want (Err NoPlan) e h = λ a b. e ∙ h
 err_told told want (Err Memory) e h = λ a b. absurd (b refl)
 
 module _ {S : Type 0} (left : S → Option (List ℕ)) (faults : S → ℕ) (label : S → List ℕ) where
-  pub imported_text : (old new : S) (bytes : List ℕ) (r : Answer) → ReadAll left faults label 67108864 old new (Ok bytes) → Tells (base_of_records (base_records bytes)) r
+  pub imported_text : (old new : S) (bytes : List ℕ) (r : Answer) → ReadAll left faults label BASE_BYTE_LIMIT old new (Ok bytes) → Tells (base_of_records (base_records bytes)) r
       → IfOk r (λ c. is_base c ≡ true) → Imported left faults label old new r
   imported_text old new bytes r read told base =
       record {
@@ -147,7 +149,7 @@ module _ {S : Type 0} (left : S → Option (List ℕ)) (faults : S → ℕ) (lab
       wanted : (before : List ℕ) → left old ≡ Some before → base_of before ≡ base_of_records (base_records bytes)
       wanted before e = ap base_of (sym (read.whole before e).same) ∙ base_of-small bytes read.fits
 
-  pub imported_large : (old new : S) → ReadAll left faults label 67108864 old new (Err large.Large) → Imported left faults label old new (Err (Full room.Bytes))
+  pub imported_large : (old new : S) → ReadAll left faults label BASE_BYTE_LIMIT old new (Err large.Large) → Imported left faults label old new (Err (Full room.Bytes))
   imported_large old new read =
       record {
         ok = λ before e. tt;

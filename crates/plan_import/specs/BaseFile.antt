@@ -6,15 +6,13 @@ use Rattle.plan_schema.specs.declared.key.Key.{Key}
 use Rattle.plan_schema.specs.declared.key.Record.{Record}
 use Rattle.plan_schema.specs.declared.refusal.Room.TheVariants as room
 use Rattle.plan_schema.specs.Contents.{Contents, record_at, with_record}
-use Rattle.plan_schema.specs.Base.{part_count, part_limit, record_limit, has_horizon}
+use Rattle.plan_schema.specs.Base.{part_count, has_horizon}
+use Rattle.plan_schema.specs.declared.limits.TheConstants.{PART_LIMIT, RECORD_LIMIT}
+use Rattle.plan_import.specs.declared.TheConstants.{BASE_BYTE_LIMIT}
 use Rattle.row_text.specs.Row.{◌>>=◌}
 use Rattle.row_text.specs.Open.{open_row_of}
 use Rattle.plan_import.specs.declared.ImportFault.{ImportFault}
 use Rattle.plan_import.specs.declared.ImportFault.TheVariants as faults
-
--- the most bytes of a base file
-abbrev pub byte_limit : ℕ
-byte_limit = 67_108_864
 
 -- the records of a base file, each a list of fields: those that csv reads with commas and double quotes, no header, records of any
 -- length and no trimming, after one byte order mark
@@ -46,8 +44,8 @@ with_records k contents (fields ∷ more) = do
 -- contents within the limits and with a horizon, or the first of these that fails
 unfoldable pub within_limits : Contents → Result Contents ImportFault
 within_limits contents =
-    if nat_lt part_limit (part_count contents) then Err (faults.Full room.Parts)
-    else (if nat_lt record_limit (length contents) then Err (faults.Full room.Records)
+    if nat_lt PART_LIMIT (part_count contents) then Err (faults.Full room.Parts)
+    else (if nat_lt RECORD_LIMIT (length contents) then Err (faults.Full room.Records)
     else (if has_horizon contents then Ok contents else Err faults.NoPlan))
 
 -- the contents of the records of a base file
@@ -59,4 +57,4 @@ base_of_records all = do
 -- the contents of a base file: the file isn't too large, each record is a row and no key comes twice, and the contents are within
 -- the limits and have a horizon; or the first of these that fails, in this order
 unfoldable pub base_of : List ℕ → Result Contents ImportFault
-base_of bytes = if nat_lt byte_limit (length bytes) then Err (faults.Full room.Bytes) else base_of_records (base_records bytes)
+base_of bytes = if nat_lt BASE_BYTE_LIMIT (length bytes) then Err (faults.Full room.Bytes) else base_of_records (base_records bytes)

@@ -10,27 +10,19 @@ ghost use Rattle.plan_import.specs.BaseFile.{base_records, with_new, with_number
 ghost use Rattle.plan_import.specs.Imported.{Imported};
 ghost use Rattle.plan_import.specs.Told.{Tells, TellsFault};
 
-#[cfg(test)]
-mod tests;
-
 use byte_lines::{ReadAllFault, Source, read_all};
 use csv::{ByteRecord, ReaderBuilder};
+use plan_schema::limits::{PART_LIMIT, RECORD_LIMIT};
 use plan_schema::{Contents, FieldFault, Key, Record, Room};
 use row_text::read_open_record;
 use std::alloc::{AllocError, Global};
 use thiserror::Error;
 
 /// The most bytes of a base file.
-const BYTE_LIMIT: usize = 67_108_864;
-
-/// The most parts of a base.
-const PART_LIMIT: usize = 10_000;
-
-/// The most records of a base.
-const RECORD_LIMIT: usize = 200_000;
+pub const BASE_BYTE_LIMIT: usize = 67_108_864;
 
 /// Why a base wasn't read. Records are numbered from 1 in the order in which they are read; blank lines are no records.
-#[derive(Clone, Copy, Debug, PartialEq, Eq, Error)]
+#[derive(Clone, Copy, Debug, Error)]
 pub enum ImportFault {
     #[error("the source failed")]
     Read,
@@ -51,7 +43,7 @@ pub enum ImportFault {
 pub fn import<S: Source>(alloc: Global, source: &mut S) -> Result<Contents, ImportFault>
     ensures { Imported S.left S.faults S.label source.old source.new result }
 {
-    match read_all(alloc, source, BYTE_LIMIT) {
+    match read_all(alloc, source, BASE_BYTE_LIMIT) {
         Ok(bytes) => import_text(alloc, bytes.as_slice()),
         Err(ReadAllFault::Failed) => Err(ImportFault::Read),
         Err(ReadAllFault::Large) => Err(ImportFault::Full(Room::Bytes)),
@@ -61,7 +53,7 @@ pub fn import<S: Source>(alloc: Global, source: &mut S) -> Result<Contents, Impo
 
 /// The contents of a base file's bytes.
 fn import_text(alloc: Global, text: &[u8]) -> Result<Contents, ImportFault>
-    requires { length text.now ≤ 67108864 }
+    requires { length text.now ≤ BASE_BYTE_LIMIT }
     ensures told { Tells (base_of_records (base_records text.now)) result }
     ensures base { IfOk result (λ contents. is_base contents ≡ true) }
 {
@@ -73,7 +65,7 @@ fn import_text(alloc: Global, text: &[u8]) -> Result<Contents, ImportFault>
 
 /// The contents of the text's records, in order.
 fn import_records(alloc: Global, text: &[u8]) -> Result<Contents, ImportFault>
-    requires { length text.now ≤ 67108864 }
+    requires { length text.now ≤ BASE_BYTE_LIMIT }
     ensures told { Tells (with_records 1 [] (base_records text.now)) result }
     ensures sound { IfOk result (λ contents. are_sound_rows contents ≡ true) }
 {

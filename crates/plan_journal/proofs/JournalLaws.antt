@@ -11,6 +11,7 @@ use Rattle.plan_schema.specs.declared.change.Change.TheVariants as changes
 use Rattle.plan_schema.specs.declared.change.Entry.{Entry}
 use Rattle.plan_schema.specs.declared.key.Key.{Key}
 use Rattle.plan_schema.specs.Sound.{is_sound_entry}
+use Rattle.plan_schema.specs.declared.limits.TheConstants.{BYTE_LIMIT}
 use Rattle.row_text.specs.Row.{◌>>=◌}
 use Rattle.row_text.proofs.Fields.{and_true, bind_ok}
 use Rattle.command_words.specs.Replies.{ended}
@@ -19,7 +20,7 @@ use Rattle.plan_journal.specs.Entries.{entries_text, journal_text}
 use Rattle.plan_journal.specs.Cuts.{parts_of}
 use Rattle.plan_journal.specs.Versions.{head_of, text_in, version_of, row_is_of, change_is_of, are_of}
 use Rattle.plan_journal.specs.Places.{nothing}
-use Rattle.plan_journal.specs.Reading.{told, entries_from, journal_frame, journal_in, journal_of, byte_limit, in_form, journal_read}
+use Rattle.plan_journal.specs.Reading.{told, entries_from, journal_frame, journal_in, journal_of, in_form, journal_read}
 use Rattle.plan_journal.specs.Held.{Held}
 use Rattle.plan_journal.specs.Told.{Tells}
 use Rattle.plan_journal.specs.Laws.{IsJournal, IsTextOf, JournalIsReadAgain, JournalIsReadAlone, LargeIsToldFirst}
@@ -135,18 +136,18 @@ form_is (Err n) number h = let same : n ≡ number = cc in ap Err same
 
 pub read_alone : JournalIsReadAlone
 unfolding journal_read
-read_alone text entries h = by_size (nat_lt byte_limit (length text)) refl h
+read_alone text entries h = by_size (nat_lt BYTE_LIMIT (length text)) refl h
   where
-    by_size : (b : Bool) → nat_lt byte_limit (length text) ≡ b → cond b (Err Large) (in_form (journal_of text)) ≡ Ok entries → (length text ≤ byte_limit) × IsJournal entries × IsTextOf text entries
+    by_size : (b : Bool) → nat_lt BYTE_LIMIT (length text) ≡ b → cond b (Err Large) (in_form (journal_of text)) ≡ Ok entries → (length text ≤ BYTE_LIMIT) × IsJournal entries × IsTextOf text entries
     by_size true is e = cc
     by_size false is e =
-        let few : length text ≤ byte_limit = grind (arith, nat_tests) in
+        let few : length text ≤ BYTE_LIMIT = grind (arith, nat_tests) in
         let both = journal_alone text entries (formed (journal_of text) entries e) in
         (few, both.0, both.1)
 
 pub form_alone : (text : List ℕ) (number : ℕ) → journal_read text ≡ Err (Form number) → journal_of text ≡ Err number
 unfolding journal_read
-form_alone text number h = by_size (nat_lt byte_limit (length text)) h
+form_alone text number h = by_size (nat_lt BYTE_LIMIT (length text)) h
   where
     by_size : (b : Bool) → cond b (Err Large) (in_form (journal_of text)) ≡ Err (Form number) → journal_of text ≡ Err number
     by_size true e = cc

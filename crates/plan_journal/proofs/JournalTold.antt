@@ -3,13 +3,14 @@ use Rattle.std.proofs.Common.{◌≡◌, ℕ, ◌<◌, ◌≤◌, true, false, c
 use Rattle.std.specs.Prelude.{◌≢◌, IfOk, IfErr}
 use Rattle.std.proofs.lemmas.Bool.Decides.{nat_tests}
 use Rattle.plan_schema.specs.declared.change.Entry.{Entry}
+use Rattle.plan_schema.specs.declared.limits.TheConstants.{BYTE_LIMIT}
 use Rattle.row_text.specs.Row.{◌>>=◌}
 use Rattle.byte_lines.specs.ReadAll.{ReadAll}
 use Rattle.byte_lines.specs.declared.reading.ReadAllFault.TheVariants as large
 use Rattle.plan_journal.specs.Held.{Held}
 use Rattle.plan_journal.specs.Cuts.{cut_at, parts_of}
 use Rattle.plan_journal.specs.Places.{nothing}
-use Rattle.plan_journal.specs.Reading.{told, entries_from, journal_frame, journal_in, journal_of, byte_limit, in_form, journal_read}
+use Rattle.plan_journal.specs.Reading.{told, entries_from, journal_frame, journal_in, journal_of, in_form, journal_read}
 use Rattle.plan_journal.specs.Laws.{IsJournal}
 use Rattle.plan_journal.specs.Told.{Tells, JournalRead}
 use Rattle.plan_journal.specs.Versions.{version_of}
@@ -36,16 +37,16 @@ known_head text head behind version cut is = behind_head text head behind cut �
 
 -- all bytes -----------------------------------------------------------------------------------------------------------------
 
-pub small_read : (text : List ℕ) → length text ≤ byte_limit → journal_read text ≡ in_form (journal_of text)
+pub small_read : (text : List ℕ) → length text ≤ BYTE_LIMIT → journal_read text ≡ in_form (journal_of text)
 unfolding journal_read
 small_read text small =
-    let few : nat_lt byte_limit (length text) ≡ false = grind (arith, nat_tests) in
+    let few : nat_lt BYTE_LIMIT (length text) ≡ false = grind (arith, nat_tests) in
     ap (λ t. cond t (Err Large) (in_form (journal_of text))) few
 
-pub large_read : (text : List ℕ) → byte_limit < length text → journal_read text ≡ Err Large
+pub large_read : (text : List ℕ) → BYTE_LIMIT < length text → journal_read text ≡ Err Large
 unfolding journal_read
 large_read text big =
-    let many : nat_lt byte_limit (length text) ≡ true = grind (arith, nat_tests) in
+    let many : nat_lt BYTE_LIMIT (length text) ≡ true = grind (arith, nat_tests) in
     ap (λ t. cond t (Err Large) (in_form (journal_of text))) many
 
 abbrev Answer : Type 0
@@ -70,7 +71,7 @@ never_read read (Err Large) h e = cc
 never_read read (Err Memory) h e = cc
 
 module _ {S : Type 0} (left : S → Option (List ℕ)) (faults : S → ℕ) (label : S → List ℕ) where
-  pub text_told : (old new : S) (bytes : List ℕ) (result : Answer) → ReadAll left faults label 1073741824 old new (Ok bytes) → Tells (journal_of bytes) result → IfOk result (λ journal. IsJournal journal.entries) → JournalRead left faults label old new result
+  pub text_told : (old new : S) (bytes : List ℕ) (result : Answer) → ReadAll left faults label BYTE_LIMIT old new (Ok bytes) → Tells (journal_of bytes) result → IfOk result (λ journal. IsJournal journal.entries) → JournalRead left faults label old new result
   text_told old new bytes result read tells journal =
       record {
         ok = λ before e. ok_told (journal_of bytes) (journal_read before) result (wanted before e) tells;
@@ -84,7 +85,7 @@ module _ {S : Type 0} (left : S → Option (List ℕ)) (faults : S → ℕ) (lab
       wanted : (before : List ℕ) → left old ≡ Some before → journal_read before ≡ in_form (journal_of bytes)
       wanted before e = ap journal_read (sym (read.whole before e).same) ∙ small_read bytes read.fits
 
-  pub large_told : (old new : S) → ReadAll left faults label 1073741824 old new (Err large.Large) → JournalRead left faults label old new (Err Large)
+  pub large_told : (old new : S) → ReadAll left faults label BYTE_LIMIT old new (Err large.Large) → JournalRead left faults label old new (Err Large)
   large_told old new read =
       record {
         ok = λ before e. tt;

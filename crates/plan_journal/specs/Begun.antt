@@ -6,6 +6,7 @@ use Rattle.plan_schema.specs.declared.key.Key.{Key}
 use Rattle.plan_schema.specs.declared.key.Record.{Record}
 use Rattle.plan_schema.specs.declared.change.Change.{Change}
 use Rattle.plan_schema.specs.declared.change.Change.TheVariants as changes
+use Rattle.plan_schema.specs.declared.limits.TheConstants.{LINE_LIMIT}
 use Rattle.row_text.specs.Number.{number_of}
 use Rattle.command_words.specs.Commands.{command_of, row_of}
 use Rattle.command_words.specs.declared.command.Command.{Command}
@@ -102,7 +103,7 @@ unfoldable pub begun_of : Version → ℕ → List ℕ → Option Begun
 begun_of version number line = do
   behind ← behind_number number line
   session ← number_before 1 16 behind
-  place ← number_before 1 1_000_000 session.1
+  place ← number_before 1 LINE_LIMIT session.1
   user ← cut_at 32 place.1
   name ← name_of user.0
   asked ← change_in version user.1

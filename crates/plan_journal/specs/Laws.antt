@@ -2,20 +2,21 @@
 use Rattle.std.specs.Prelude.{◌≡◌, ◌⊎◌, ℕ, ◌+◌, ◌-◌, ◌≤◌, ◌<◌, List, ◌++◌, length, take, true, Ok, Err}
 use Rattle.std.specs.List.{flat_map}
 use Rattle.plan_schema.specs.declared.change.Entry.{Entry}
+use Rattle.plan_schema.specs.declared.limits.TheConstants.{BYTE_LIMIT, ENTRY_LIMIT, CARRIED_LIMIT}
 use Rattle.command_words.specs.Replies.{ended}
 use Rattle.scenario_rules.specs.Journal.{AreSound}
 use Rattle.scenario_rules.specs.Refused.{record_counts}
 use Rattle.plan_journal.specs.Entries.{journal_text}
 use Rattle.plan_journal.specs.Cuts.{parts_of}
 use Rattle.plan_journal.specs.Versions.{has_no_spans, first_version_text}
-use Rattle.plan_journal.specs.Reading.{byte_limit, journal_read}
+use Rattle.plan_journal.specs.Reading.{journal_read}
 use Rattle.plan_journal.specs.declared.fault.JournalFault.TheVariants.{Form, Large}
 
 -- a journal: sound entries, at most 1,000,000 of them, with at most 4,000,000 records
 pub record IsJournal (entries : List Entry) : Type 0 where
   pub sound : AreSound entries
-  pub few : length entries ≤ 1_000_000
-  pub records : record_counts entries ≤ 4_000_000
+  pub few : length entries ≤ ENTRY_LIMIT
+  pub records : record_counts entries ≤ CARRIED_LIMIT
 
 -- a text is that of entries: their text, or that in the first version where no row has a span
 abbrev pub IsTextOf : List ℕ → List Entry → Type 0
@@ -23,11 +24,11 @@ IsTextOf text entries = (text ≡ journal_text entries) ⊎ ((text ≡ first_ver
 
 -- a journal is read from its texts that aren't too long
 abbrev pub JournalIsReadAgain : Type 0
-JournalIsReadAgain = (text : List ℕ) (entries : List Entry) → length text ≤ byte_limit → IsJournal entries → IsTextOf text entries → journal_read text ≡ Ok entries
+JournalIsReadAgain = (text : List ℕ) (entries : List Entry) → length text ≤ BYTE_LIMIT → IsJournal entries → IsTextOf text entries → journal_read text ≡ Ok entries
 
 -- what is read is a journal, and the text is its text
 abbrev pub JournalIsReadAlone : Type 0
-JournalIsReadAlone = (text : List ℕ) (entries : List Entry) → journal_read text ≡ Ok entries → (length text ≤ byte_limit) × IsJournal entries × IsTextOf text entries
+JournalIsReadAlone = (text : List ℕ) (entries : List Entry) → journal_read text ≡ Ok entries → (length text ≤ BYTE_LIMIT) × IsJournal entries × IsTextOf text entries
 
 -- how many lines of a text have a line feed
 abbrev pub line_count : List ℕ → ℕ
@@ -59,4 +60,4 @@ FaultyLineIsFirst =
 
 -- too many bytes are told before all else
 abbrev pub LargeIsToldFirst : Type 0
-LargeIsToldFirst = (text : List ℕ) → byte_limit < length text → journal_read text ≡ Err Large
+LargeIsToldFirst = (text : List ℕ) → BYTE_LIMIT < length text → journal_read text ≡ Err Large

@@ -1,6 +1,7 @@
 -- Places in a journal's text, behind some of its lines.
 use Rattle.std.specs.Prelude.{ℕ, ◌+◌, Bool, ◌&&◌, ◌==◌, nat_lt, nat_le, List, [], ◌∷◌, ◌++◌, length, Option, Some, None, if◌then◌else◌}
 use Rattle.plan_schema.specs.declared.change.Entry.{Entry}
+use Rattle.plan_schema.specs.declared.limits.TheConstants.{CARRIED_LIMIT}
 use Rattle.plan_journal.specs.Begun.{◌>>=◌, where_so, row_in, with_row, records_of, begun_of}
 use Rattle.plan_journal.specs.declared.begun.Begun.{Begun}
 use Rattle.plan_journal.specs.declared.frame.Frame.{Frame}
@@ -23,7 +24,7 @@ kept entries records begun =
 
 -- there may be one more entry, and so many records: at most 4,000,000
 abbrev pub has_room : Frame → Place → ℕ → Bool
-has_room frame place records = nat_lt (length place.entries) frame.most && nat_le records 4_000_000
+has_room frame place records = nat_lt (length place.entries) frame.most && nat_le records CARRIED_LIMIT
 
 -- the place behind the line of an entry; one past a limit is faulty in this line
 unfoldable pub behind_entry_line : Frame → Place → List ℕ → Option Place

@@ -1,6 +1,7 @@
 -- A journal's text, read line by line.
 use Rattle.std.specs.Prelude.{ℕ, ◌+◌, ◌&&◌, ◌==◌, nat_lt, List, [], ◌∷◌, length, Option, Some, None, is_none, Result, Ok, Err, if◌then◌else◌}
 use Rattle.plan_schema.specs.declared.change.Entry.{Entry}
+use Rattle.plan_schema.specs.declared.limits.TheConstants.{BYTE_LIMIT, ENTRY_LIMIT}
 use Rattle.row_text.specs.Row.{◌>>=◌}
 use Rattle.plan_journal.specs.Cuts.{parts_of}
 use Rattle.plan_journal.specs.Places.{Place, nothing, continued}
@@ -35,7 +36,7 @@ entries_from frame place number parts = do
 
 -- the most entries of a journal, numbered from 1
 abbrev pub journal_frame : Version → Frame
-journal_frame version = record { version = version; first = 1; most = 1_000_000 }
+journal_frame version = record { version = version; first = 1; most = ENTRY_LIMIT }
 
 -- a journal's first line, and then its entries
 abbrev pub journal_in : List (List ℕ) → List ℕ → Result (List Entry) ℕ
@@ -49,8 +50,6 @@ unfoldable pub journal_of : List ℕ → Result (List Entry) ℕ
 journal_of text = journal_in (parts_of text).0 (parts_of text).1
 
 -- the most bytes of a journal
-abbrev pub byte_limit : ℕ
-byte_limit = 1_073_741_824
 
 abbrev pub in_form : Result (List Entry) ℕ → Result (List Entry) JournalFault
 in_form (Ok entries) = Ok entries
@@ -58,4 +57,4 @@ in_form (Err number) = Err (Form number)
 
 -- what a journal's bytes are read as: too many bytes come before a faulty line
 unfoldable pub journal_read : List ℕ → Result (List Entry) JournalFault
-journal_read text = if nat_lt byte_limit (length text) then Err Large else in_form (journal_of text)
+journal_read text = if nat_lt BYTE_LIMIT (length text) then Err Large else in_form (journal_of text)

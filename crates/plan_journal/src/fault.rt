@@ -2,7 +2,7 @@
 use thiserror::Error;
 
 /// Why a journal wasn't read.
-#[derive(Clone, Copy, Debug, PartialEq, Eq, Error)]
+#[derive(Clone, Copy, Debug, Error)]
 pub enum JournalFault {
     /// The source failed.
     #[error("the source failed")]

@@ -6,7 +6,7 @@ use plan_schema::{Change, Record};
 use row_text::is_word;
 
 /// The versions of a journal's text.
-#[derive(Clone, Copy, Debug, PartialEq, Eq)]
+#[derive(Clone, Copy)]
 pub(crate) enum Version {
     /// No bill has a span.
     One,
@@ -14,7 +14,7 @@ pub(crate) enum Version {
 }
 
 /// Which entries a text may have.
-#[derive(Clone, Copy, Debug)]
+#[derive(Clone, Copy)]
 pub(crate) struct Frame {
     pub(crate) version: Version,
     /// The number of the first entry.

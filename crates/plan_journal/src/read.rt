@@ -14,13 +14,8 @@ use crate::journal::Journal;
 use crate::reading::read_entries;
 use byte_lines::{ReadAllFault, Source, read_all};
 use plan_schema::Entry;
+use plan_schema::limits::{BYTE_LIMIT, ENTRY_LIMIT};
 use std::alloc::{AllocError, Global};
-
-/// The most bytes of a journal.
-const BYTE_LIMIT: usize = 1_073_741_824;
-
-/// The most entries of a journal.
-const ENTRY_LIMIT: usize = 1_000_000;
 
 /// The sound entry whose text with a number is exactly this one, if there is one.
 pub fn read_entry(alloc: Global, number: u64, text: &[u8]) -> Result<Option<Entry>, AllocError>

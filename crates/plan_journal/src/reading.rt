@@ -12,11 +12,9 @@ use crate::cuts::cut_at;
 use crate::fault::JournalFault;
 use crate::frame::Frame;
 use crate::journal::Journal;
+use plan_schema::limits::CARRIED_LIMIT;
 use std::alloc::{AllocError, Global};
 use std::marker::Model;
-
-/// The most records of a journal.
-const RECORD_LIMIT: u64 = 4_000_000;
 
 /// The entries that were read, how many records they have, and the entry that waits for rows, whose rows are all counted.
 #[derive(Drop)]
@@ -28,17 +26,18 @@ struct Reading {
 
 impl Model for Reading {
     ghost use Rattle.std.specs.Prelude.{◌≤◌};
+    ghost use Rattle.plan_schema.specs.declared.limits.TheConstants.{CARRIED_LIMIT};
     ghost use Rattle.plan_journal.specs.Places.{Place};
 
     ghost Value = { Place };
 
     ghost view = { λ reading. record { entries = reading.journal.entries; records = reading.records; begun = reading.begun } };
 
-    ghost invariant = { λ reading. reading.records ≤ 4000000 };
+    ghost invariant = { λ reading. reading.records ≤ CARRIED_LIMIT };
 }
 
 /// Why a line isn't read.
-#[derive(Clone, Copy, Debug, PartialEq, Eq)]
+#[derive(Clone, Copy)]
 enum LineFault {
     Form,
     Memory,
@@ -123,7 +122,7 @@ impl Reading {
             return Err(LineFault::Form);
         };
         let records = self.records + begun.records();
-        if records > RECORD_LIMIT {
+        if records > CARRIED_LIMIT {
             return Err(LineFault::Form);
         }
         self.records = records;

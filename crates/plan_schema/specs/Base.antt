@@ -4,6 +4,7 @@ use Rattle.plan_schema.specs.declared.key.Key.{Key}
 use Rattle.plan_schema.specs.declared.key.Key.TheVariants as keys
 use Rattle.plan_schema.specs.Contents.{Contents, record_at, is_ordered}
 use Rattle.plan_schema.specs.Sound.{are_sound_rows}
+use Rattle.plan_schema.specs.declared.limits.TheConstants.{PART_LIMIT, RECORD_LIMIT}
 
 abbrev pub is_part_key : Key → Bool
 is_part_key (keys.Part name) = true
@@ -13,13 +14,6 @@ is_part_key _ = false
 abbrev pub part_count : Contents → ℕ
 part_count contents = count_by (λ row. is_part_key row.0) contents
 
--- the most parts and the most records of a scenario
-abbrev pub part_limit : ℕ
-part_limit = 10_000
-
-abbrev pub record_limit : ℕ
-record_limit = 200_000
-
 -- the contents have a horizon
 abbrev pub has_horizon : Contents → Bool
 has_horizon contents = is_some (record_at contents keys.Plan)
@@ -27,4 +21,4 @@ has_horizon contents = is_some (record_at contents keys.Plan)
 -- contents that a run can begin with: sound rows in key order, a horizon, and no more parts and records than there may be
 abbrev pub is_base : Contents → Bool
 is_base contents =
-    is_ordered contents && are_sound_rows contents && has_horizon contents && nat_le (part_count contents) part_limit && nat_le (length contents) record_limit
+    is_ordered contents && are_sound_rows contents && has_horizon contents && nat_le (part_count contents) PART_LIMIT && nat_le (length contents) RECORD_LIMIT

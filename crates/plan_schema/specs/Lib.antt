@@ -7,3 +7,4 @@ pub mod Contents
 pub mod Outside
 pub mod Refusals
 pub mod Base
+pub mod Release

@@ -30,10 +30,15 @@ abbrev pub Gave : Option (List ℕ) → Option (List ℕ) → List ℕ → ℕ �
 Gave None after into n = after ≡ None
 Gave (Some before) after into n = GaveFront before after into n
 
--- a read gives the first bytes that are left, as many as it says and the buffer holds; a failed one leaves all as it was
+-- what a failed read leaves: some last bytes of what was left, maybe all
+abbrev pub LeavesEnd : Option (List ℕ) → Option (List ℕ) → Type 0
+LeavesEnd None after = after ≡ None
+LeavesEnd (Some before) after = (gone : ℕ) × (gone ≤ length before) × (after ≡ Some (drop gone before))
+
+-- a read gives the first bytes that are left, as many as it says and the buffer holds; a failed one gives nothing, and may lose some
 abbrev pub Gives : Option (List ℕ) → Option (List ℕ) → List ℕ → Result ℕ Failed → Type 0
 Gives before after into (Ok n) = (n ≤ length into) × Gave before after into n
-Gives before after into (Err fault) = after ≡ before
+Gives before after into (Err fault) = LeavesEnd before after
 
 -- a source's count of faults doesn't fall, and rose where a read failed
 pub record ReadCause {T : Type 0} (before now : ℕ) (result : Result T Failed) : Type 0 where

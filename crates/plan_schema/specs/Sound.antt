@@ -14,6 +14,7 @@ use Rattle.plan_schema.specs.declared.change.Entry.{Entry}
 use Rattle.plan_schema.specs.Name.{is_name}
 use Rattle.plan_schema.specs.Day.{is_day}
 use Rattle.plan_schema.specs.Key.{name_eq, key_eq}
+use Rattle.plan_schema.specs.declared.limits.TheConstants.{LOAD_LIMIT, SESSION_LIMIT, LINE_LIMIT}
 
 -- the names in a key are names, and its days are days
 abbrev pub key_has_names : Key → Bool
@@ -102,7 +103,7 @@ change_has_names (changes.Drop scenario) = is_name scenario
 abbrev pub change_is_within : Change → Bool
 change_is_within (changes.Put scenario key value) = is_sound_row key value
 change_is_within (changes.Del scenario key) = is_sound_key key && not (key_eq key keys.Plan)
-change_is_within (changes.Load scenario rows) = nat_le 1 (length rows) && nat_le (length rows) 1_000 && are_sound_rows rows
+change_is_within (changes.Load scenario rows) = nat_le 1 (length rows) && nat_le (length rows) LOAD_LIMIT && are_sound_rows rows
 change_is_within _ = true
 
 -- a sound change: one that the grammar of commands can spell
@@ -112,5 +113,5 @@ is_sound_change change = change_has_names change && change_is_within change
 -- a sound entry: of a session from 1 to 16 and a line from 1 to 1,000,000, with a sound change
 abbrev pub is_sound_entry : Entry → Bool
 is_sound_entry entry =
-    nat_le 1 entry.session && nat_le entry.session 16 && nat_le 1 entry.line && nat_le entry.line 1_000_000
+    nat_le 1 entry.session && nat_le entry.session SESSION_LIMIT && nat_le 1 entry.line && nat_le entry.line LINE_LIMIT
     && is_name entry.user && is_sound_change entry.change

@@ -63,7 +63,7 @@ pub struct Entry {
 }
 
 /// A cell of records: the horizon's, a calendar's or a part's.
-#[derive(Clone, Copy, Debug, PartialEq, Eq, PartialOrd, Ord, Hash)]
+#[derive(Clone, Copy, PartialEq, Eq, PartialOrd, Ord, Hash)]
 pub enum CellName {
     Plan,
     Cal(Name),

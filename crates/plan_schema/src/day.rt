@@ -13,7 +13,7 @@ use std::marker::Model;
 const FIRST: u32 = 4_382_544;
 
 /// A day from 2000-01-01 to 2099-12-31. Days are ordered in time.
-#[derive(Clone, Copy, Debug, PartialEq, Eq, PartialOrd, Ord, Hash)]
+#[derive(Clone, Copy, PartialEq, Eq, PartialOrd, Ord)]
 pub struct Day {
     number: u32,
 }

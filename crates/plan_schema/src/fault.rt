@@ -1,7 +1,7 @@
 //! What is wrong with a field of a row.
 
 /// The rule that a field breaks.
-#[derive(Clone, Copy, Debug, PartialEq, Eq)]
+#[derive(Clone, Copy, Debug)]
 pub enum Rule {
     /// A field of the wrong form, one that is missing, or the first one too many.
     Shape,
@@ -14,7 +14,7 @@ pub enum Rule {
 }
 
 /// The first faulty field of a row, and the rule that it breaks. Field 0 is the table word.
-#[derive(Clone, Copy, Debug, PartialEq, Eq)]
+#[derive(Clone, Copy, Debug)]
 pub struct FieldFault {
     pub field: u32,
     pub rule: Rule,

@@ -11,7 +11,7 @@ use std::cmp::Ordering;
 pub type Qty = u64;
 
 /// What a record is about. Keys are ordered by table, in the order of the variants, and then by their fields.
-#[derive(Clone, Copy, Debug, PartialEq, Eq, PartialOrd, Ord)]
+#[derive(Clone, Copy, PartialEq, Eq, PartialOrd, Ord)]
 pub enum Key {
     /// The horizon.
     Plan,
@@ -32,7 +32,7 @@ pub enum Key {
 }
 
 /// How a planned order is sized from the net requirement of its day.
-#[derive(Clone, Copy, Debug, PartialEq, Eq)]
+#[derive(Clone, Copy, PartialEq)]
 pub enum Lot {
     /// Lot for lot: the net requirement itself.
     Exact,
@@ -45,14 +45,14 @@ pub enum Lot {
 }
 
 /// The days from one to another, both of them with it.
-#[derive(Clone, Copy, Debug, PartialEq, Eq)]
+#[derive(Clone, Copy, PartialEq)]
 pub struct Span {
     pub from: Day,
     pub to: Day,
 }
 
 /// What is recorded under a key.
-#[derive(Clone, Copy, Debug, PartialEq, Eq)]
+#[derive(Clone, Copy, PartialEq)]
 pub enum Record {
     /// The horizon: its first day, and how many days it has, 1 to 400.
     Plan {

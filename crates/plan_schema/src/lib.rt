@@ -7,10 +7,12 @@ mod day;
 mod fault;
 mod key;
 mod laws;
+pub mod limits;
 mod name;
 mod outcome;
 pub mod outside;
 mod refusal;
+mod release;
 mod series;
 mod steps;
 
@@ -23,8 +25,6 @@ pub use laws::days_have_one_spelling;
 pub use name::Name;
 pub use outcome::{Known, NetFault, Outcome};
 pub use refusal::{Refusal, Room};
+pub use release::Release;
 pub use series::{Quantities, Rows, Series};
 pub use steps::Steps;
-
-#[cfg(test)]
-mod tests;

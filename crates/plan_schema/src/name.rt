@@ -15,7 +15,7 @@ use std::hash::{Hash, Hasher};
 use std::marker::Model;
 
 /// A name: 1 to 32 letters, digits, `_`, `-` and `.`, of which the first is a letter or a digit. Names are ordered by bytes.
-#[derive(Clone, Copy, Debug)]
+#[derive(Clone, Copy)]
 pub struct Name {
     cells: [u8; 32],
     len: u8,

@@ -1,7 +1,7 @@
 //! What the planning of a part comes to.
 use crate::key::Qty;
+use crate::release::Release;
 use crate::series::Quantities;
-use std::sync::Arc;
 
 /// The record of a part over the horizon: a number for each day in each list, and the sum of the late orders.
 #[derive(Drop)]
@@ -15,13 +15,13 @@ pub struct Outcome {
     /// The projected balance at the end of the day.
     pub balance: Quantities,
     /// Planned order releases.
-    pub release: Arc<Quantities>,
+    pub release: Release,
     /// What is released on the first day and should have been released before it.
     pub late: Qty,
 }
 
 /// Why the planning of a part has no outcome.
-#[derive(Clone, Copy, Debug, PartialEq, Eq)]
+#[derive(Clone, Copy)]
 pub enum NetFault {
     /// A gross requirement, a planned order or a release exceeds the limit.
     TooLarge,

@@ -4,11 +4,11 @@ ghost use Rattle.std.specs.Prelude.{◌≡◌, ◌≤◌, ℕ, List, Option, IfO
 ghost use Rattle.plan_schema.specs.Outside.{Gives, ReadCause, Takes, WriteCause, Wrote, Stays, StaysBut, OpenCause, IsKeptOrEmpty, Counted};
 
 /// A read that failed.
-#[derive(Clone, Copy, Debug, PartialEq, Eq)]
+#[derive(Clone, Copy)]
 pub struct Failed;
 
 /// Why a sink took no more.
-#[derive(Clone, Copy, Debug, PartialEq, Eq)]
+#[derive(Clone, Copy)]
 pub enum SinkFault {
     /// The device failed.
     Failed,
@@ -17,7 +17,7 @@ pub enum SinkFault {
 }
 
 /// Why a part of a shelf can't be had.
-#[derive(Clone, Copy, Debug, PartialEq, Eq)]
+#[derive(Clone, Copy)]
 pub enum ShelfFault {
     /// The device failed.
     Failed,

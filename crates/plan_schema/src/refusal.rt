@@ -4,7 +4,7 @@ use crate::key::Key;
 use crate::name::Name;
 
 /// What is full.
-#[derive(Clone, Copy, Debug, PartialEq, Eq)]
+#[derive(Clone, Copy, Debug)]
 pub enum Room {
     /// The base file has too many bytes.
     Bytes,
@@ -19,7 +19,7 @@ pub enum Room {
 }
 
 /// Why a change or a query is refused, with what it is about.
-#[derive(Clone, Copy, Debug, PartialEq, Eq)]
+#[derive(Clone, Copy)]
 pub enum Refusal {
     /// The scenario isn't there.
     NoScenario(Name),
@@ -51,6 +51,8 @@ pub enum Refusal {
     TooLarge(Name),
     /// The day lies outside the horizon.
     NoDay(Day),
+    /// The part's lot rule names no costs.
+    NoCosts(Name),
     /// Nothing can be changed here.
     ReadOnly,
 }

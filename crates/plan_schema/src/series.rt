@@ -76,6 +76,17 @@ impl<T> Series<T> {
     }
 }
 
+impl<T: Drop> Series<T> {
+    /// Adds a value that may own memory at the end.
+    pub fn add(&mut self, item: T) -> Result<(), AllocError>
+        ensures ok { OnOk result (self.new ≡ self.old ++ item ∷ []) }
+        ensures err { OnErr result (self.new ≡ self.old) }
+    {
+        self.items.push(item)?;
+        Ok(())
+    }
+}
+
 impl<T: Copy> Series<T> {
     /// Adds a value at the end.
     pub fn push(&mut self, item: T) -> Result<(), AllocError>

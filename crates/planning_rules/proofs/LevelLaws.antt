@@ -11,15 +11,15 @@ use Rattle.std.specs.Cmp.Lexicographic.{slice_cmp, nat_list_cmp_total}
 use Rattle.plan_schema.specs.declared.name.Name.{Name}
 use Rattle.plan_schema.specs.Key.{name_eq}
 use Rattle.plan_schema.specs.Contents.{Contents}
-use Rattle.planning_rules.specs.Bills.{ParentBill, bills_of, parents, all_parents, is_above, is_ancestor, above_all, level_within, level}
+use Rattle.planning_rules.specs.Bills.{ParentBill, bills_of, parents, all_parents, is_above, is_ancestor, above_all, level_within, level, longest_chain}
 use Rattle.planning_rules.specs.Laws.{NoLevelIsCyclic, CyclicHasNoLevel}
 use Rattle.planning_rules.proofs.Membership.{IsIn, any_in, which, either, or_right}
 use Rattle.planning_rules.proofs.Counting.{passing, passing_less}
 use Rattle.planning_rules.proofs.Parents.{each_parent, in_all}
 use Rattle.planning_rules.proofs.AncestorLaws.{chains_are_short}
-use Rattle.planning_rules.proofs.Settling.{IsSettledAt, settled_in_time}
+use Rattle.planning_rules.proofs.Settling.{IsSettledAt, settled_in_time, enough}
 
-levels_same : (f g : Name → Option ℕ) (bs : List ParentBill) → AllByRecursion (λ b. f b.parent ≡ g b.parent) bs → above_all (map f (map (λ bill. bill.parent) bs)) ≡ above_all (map g (map (λ bill. bill.parent) bs))
+pub levels_same : (f g : Name → Option ℕ) (bs : List ParentBill) → AllByRecursion (λ b. f b.parent ≡ g b.parent) bs → above_all (map f (map (λ bill. bill.parent) bs)) ≡ above_all (map g (map (λ bill. bill.parent) bs))
 levels_same f g bs h = ap above_all (lists_same bs h)
   where
     lists_same : (bs : List ParentBill) → AllByRecursion (λ b. f b.parent ≡ g b.parent) bs → map f (map (λ bill. bill.parent) bs) ≡ map g (map (λ bill. bill.parent) bs)
@@ -48,6 +48,10 @@ level_stays c (suc k) n h = levels_same (level_within (suc k) c) (level_within k
 
 pub level_is_step : (c : Contents) (n : Name) → level c n ≡ above_all (map (level c) (parents c n))
 level_is_step c n = level_next c (suc (length c)) (settled_in_time (λ j. level_within j c) c (level_stays c) (level_next c) (λ n. refl)) n
+
+-- longer chains lead to no other levels
+pub level_enough : (c : Contents) (k : ℕ) → longest_chain c ≤ k → (n : Name) → level_within k c n ≡ level c n
+level_enough c k l n = enough (λ j. level_within j c) c (level_stays c) (level_next c) (λ n. refl) k l n
 
 none_in : (f : Name → Option ℕ) (ps : List Name) → above_all (map f ps) ≡ None → (p : Name) × IsIn p ps × (f p ≡ None)
 none_in f [] h = cc

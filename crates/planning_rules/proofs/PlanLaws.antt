@@ -1,16 +1,16 @@
 -- The plan of a name is one step from the plans of its parents, so it can be found walking up from the asked names.
-use Rattle.std.proofs.Common.{◌≡◌, ℕ, suc, zero, ◌+◌, ◌*◌, List, [], ◌∷◌, length, map, refl, sym, ◌∙◌, ap, Bool, true, false, cond, ◌&&◌}
+use Rattle.std.proofs.Common.{◌≡◌, ℕ, suc, zero, ◌+◌, ◌*◌, ◌≤◌, List, [], ◌∷◌, length, map, refl, sym, ◌∙◌, ap, Bool, true, false, cond, ◌&&◌}
 use Rattle.std.specs.Prelude.{Option, Some, None, is_some, slice_index}
 use Rattle.std.specs.List.{list_all, AllByRecursion, range_with_len}
 use Rattle.plan_schema.specs.declared.name.Name.{Name}
 use Rattle.plan_schema.specs.declared.key.Key.TheVariants as keys
 use Rattle.plan_schema.specs.Contents.{Contents, record_at}
-use Rattle.planning_rules.specs.Bills.{ParentBill, bills_of, parents, is_effective}
+use Rattle.planning_rules.specs.Bills.{ParentBill, bills_of, parents, is_effective, longest_chain}
 use Rattle.planning_rules.specs.Days.{start_of, days_of}
 use Rattle.planning_rules.specs.Plan.{Known, has_outcome, released, asked_by, gross_on, gross_of, total, demands_on, input_of, known_from, plan_step, plan_within, plan}
 use Rattle.planning_rules.specs.Laws.{PlanIsStep, WalkIsPlan}
 use Rattle.planning_rules.proofs.Parents.{each_parent}
-use Rattle.planning_rules.proofs.Settling.{IsSettledAt, settled_in_time}
+use Rattle.planning_rules.proofs.Settling.{IsSettledAt, settled_in_time, enough}
 
 -- equal functions give equal lists
 pub map_same : {A B : Type 0} (f g : A → B) → ((a : A) → f a ≡ g a) → (xs : List A) → map f xs ≡ map g xs
@@ -73,3 +73,7 @@ plan_is_step c n = next_same c (suc (length c)) (settled_in_time (λ j. plan_wit
 -- a walk that knows the plans of the parents finds that of the name
 pub walk_is_plan : WalkIsPlan
 walk_is_plan c known n h = step_local known (plan c) c n h ∙ sym (plan_is_step c n)
+
+-- longer chains lead to no more plans
+pub plan_enough : (c : Contents) (k : ℕ) → longest_chain c ≤ k → (n : Name) → plan_within k c n ≡ plan c n
+plan_enough c k l n = enough (λ j. plan_within j c) c (stays c) (next_same c) (λ n. refl) k l n

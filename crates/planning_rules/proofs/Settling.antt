@@ -1,6 +1,6 @@
 -- Values that are found step by step from those of the parents: after as many steps as there are rows and one, none is found any
 -- more.
-use Rattle.std.proofs.Common.{◌≡◌, ℕ, suc, zero, ◌≤◌, ◌⊎◌, inl, inr, List, [], ◌∷◌, length, refl, sym, ◌∙◌, ap, arith, true, false}
+use Rattle.std.proofs.Common.{◌≡◌, ℕ, suc, zero, ◌≤◌, ◌⊎◌, inl, inr, List, [], ◌∷◌, length, refl, sym, ◌∙◌, ap, subst, arith, true, false}
 use Rattle.std.proofs.lemmas.Bool.{cases_lt}
 use Rattle.std.specs.Prelude.{Option, Some, None, is_some}
 use Rattle.std.specs.List.{AllByRecursion}
@@ -46,4 +46,23 @@ module _ {V : Type 0} (f : ℕ → Name → Option V) (c : Contents)
       elim (settling (suc (length c))) [
         | inl s ↦ s
         | inr many ↦ let most = passing_most (λ n. is_some (f (suc (length c)) n)) (all_parents c) in let few = few_parents c in absurd (omega arith)
+      ]
+
+  -- and none later
+  pub settled_after : (k : ℕ) → suc (length c) ≤ k → IsSettledAt f c k
+  settled_after zero l = absurd (omega arith)
+  settled_after (suc k) l =
+      elim (cases_lt k (suc (length c))) [
+        | inl less ↦ let same : suc (length c) ≡ suc k = omega arith in subst (IsSettledAt f c) same settled_in_time
+        | inr more ↦ everywhere _ (next k (settled_after k more)) (all_parents c)
+      ]
+
+  -- so more steps than there are rows and two find the same
+  pub enough : (k : ℕ) → suc (suc (length c)) ≤ k → (n : Name) → f k n ≡ f (suc (suc (length c))) n
+  enough zero l n = absurd (omega arith)
+  enough (suc zero) l n = absurd (omega arith)
+  enough (suc (suc k)) l n =
+      elim (cases_lt (suc k) (suc (suc (length c)))) [
+        | inl less ↦ let same : suc (suc k) ≡ suc (suc (length c)) = omega arith in ap (λ j. f j n) same
+        | inr more ↦ sym (next k (settled_after k (omega arith)) n) ∙ enough (suc k) more n
       ]

@@ -3,6 +3,7 @@
 use Rattle.std.specs.Prelude.{◌≡◌, ℕ, zero, suc, ◌+◌, ◌-◌, ◌<◌, ◌≤◌, List, [], ◌∷◌, ◌++◌, Bool, ◌==◌, nat_lt, ◌||◌, if◌then◌else◌, length, take, map, slice_index, sum}
 use Rattle.std.specs.List.{range_with_len, list_any}
 use Rattle.plan_schema.specs.declared.key.Lot.{Lot}
+pub use Rattle.plan_schema.specs.declared.outcome.Outcome.{Outcome as Lists}
 use Rattle.plan_schema.specs.declared.key.Lot.TheVariants as lot
 use Rattle.planning_rules.specs.Amounts.{IsAmount, amount}
 use Rattle.planning_rules.specs.Days.{back}
@@ -96,14 +97,6 @@ planned_of x = planned_to x (days x)
 
 -- the outcome of a part's step: gross requirements, scheduled receipts, planned order receipts, projected balance, planned order
 -- releases, and the late sum
-pub record Lists : Type 0 where
-  pub gross : List ℕ
-  pub sched : List ℕ
-  pub planned : List ℕ
-  pub balance : List ℕ
-  pub release : List ℕ
-  pub late : ℕ
-
 abbrev pub outcome_from : Input → List ℕ → Lists
 outcome_from x planned = record { gross = x.gross; sched = x.sched; planned = planned; balance = balances x planned; release = releases x.calendar x.lead planned; late = late_sum x.calendar x.lead planned }
 

@@ -2,6 +2,8 @@
 use Rattle.std.specs.Prelude.{ℕ, zero, suc, ◌+◌, ◌*◌, List, [], Bool, true, false, if◌then◌else◌, Option, Some, None, map, sum_by, slice_index, is_some}
 use Rattle.std.specs.List.{range_with_len, list_all, filter_map}
 use Rattle.plan_schema.specs.declared.name.Name.{Name}
+pub use Rattle.plan_schema.specs.declared.outcome.Known.{Known}
+pub use Rattle.plan_schema.specs.declared.outcome.Known.TheVariants.{Plan as Planned, TooLarge as Large}
 use Rattle.plan_schema.specs.declared.key.Key.{Key}
 use Rattle.plan_schema.specs.declared.key.Key.TheVariants as keys
 use Rattle.plan_schema.specs.declared.key.Record.{Record}
@@ -48,11 +50,6 @@ demands_on c n t = counted (start_of c) t (demands_of c n)
 -- scheduled receipts on day t
 abbrev pub sched_on : Contents → Name → ℕ → ℕ
 sched_on c n t = total (counted (start_of c) t (receipts_of c n))
-
--- what is known of a planned name: its outcome, or that a number of its own step is too large
-pub data Known : Type 0 where
-  Planned : Lists → Known
-  Large : Known
 
 -- the planned order releases of a name whose plan is known
 abbrev pub released : Option Known → List ℕ

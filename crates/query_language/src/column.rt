@@ -5,7 +5,7 @@ ghost use Rattle.query_language.specs.Words as spec;
 use row_text::is_word;
 
 /// A figure of a part.
-#[derive(Clone, Copy, Debug, PartialEq, Eq)]
+#[derive(Clone, Copy)]
 pub enum Column {
     /// The lead time in working days.
     Lead,
@@ -34,7 +34,7 @@ pub enum Column {
 }
 
 /// A comparison with a number.
-#[derive(Clone, Copy, Debug, PartialEq, Eq)]
+#[derive(Clone, Copy)]
 pub enum Op {
     Eq,
     Ne,

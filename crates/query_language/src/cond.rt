@@ -6,7 +6,7 @@ use plan_schema::{Name, Series};
 pub type Columns = Series<Column>;
 
 /// A condition on a part.
-#[derive(Debug, Drop, PartialEq, Eq)]
+#[derive(Drop)]
 pub enum Cond {
     /// How a figure compares with a number.
     Is(Column, Op, u64),
@@ -18,7 +18,7 @@ pub enum Cond {
 }
 
 /// What is asked of which parts: all of them where there is no condition.
-#[derive(Drop, PartialEq, Eq)]
+#[derive(Drop)]
 pub struct Query {
     pub columns: Columns,
     pub cond: Option<Cond>,

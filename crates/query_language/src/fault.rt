@@ -1,7 +1,7 @@
 //! What is wrong with a text that is no query.
 
 /// Why a text is no query.
-#[derive(Clone, Copy, Debug, PartialEq, Eq)]
+#[derive(Clone, Copy)]
 pub enum QueryRule {
     /// A token that doesn't fit.
     Word,
@@ -15,7 +15,7 @@ pub enum QueryRule {
 
 /// The first token that no query continues, by the place of its first byte, from 0. Where the text ends too early, the place is
 /// its length.
-#[derive(Clone, Copy, Debug, PartialEq, Eq)]
+#[derive(Clone, Copy)]
 pub struct QueryFault {
     pub place: u32,
     pub rule: QueryRule,

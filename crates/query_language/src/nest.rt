@@ -6,7 +6,7 @@ use arrayvec::ArrayVec;
 use std::marker::Model;
 
 /// What is in force for the tokens behind it: a `NOT` up to the end of its factor, a `(` up to its `)`.
-#[derive(Clone, Copy, Debug, Default, PartialEq, Eq)]
+#[derive(Clone, Copy, Default)]
 pub(crate) enum Opener {
     Not,
     #[default]

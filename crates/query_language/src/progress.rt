@@ -13,7 +13,7 @@ use row_text::{is_word, read_number};
 const MOST: u64 = 999_999_999_999_999_999;
 
 /// What may come next.
-#[derive(Clone, Copy, Debug, PartialEq, Eq)]
+#[derive(Clone, Copy)]
 pub(crate) enum Awaits {
     /// A column of the list, with room for so many behind it.
     Column(u8),
@@ -34,7 +34,7 @@ pub(crate) enum Awaits {
 }
 
 /// What a token adds to a query.
-#[derive(Clone, Copy, Debug)]
+#[derive(Clone, Copy)]
 pub(crate) enum Piece {
     /// Nothing by itself.
     Nothing,

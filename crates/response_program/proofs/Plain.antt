@@ -5,11 +5,13 @@ use Rattle.plan_schema.specs.declared.fault.FieldFault.{FieldFault}
 use Rattle.plan_schema.specs.declared.key.Key.{Key}
 use Rattle.plan_schema.specs.declared.key.Record.{Record}
 use Rattle.plan_schema.specs.Contents.{Contents, with_record, record_at}
-use Rattle.plan_schema.specs.Base.{part_count, part_limit, record_limit, has_horizon}
+use Rattle.plan_schema.specs.Base.{part_count, has_horizon}
+use Rattle.plan_schema.specs.declared.limits.TheConstants.{PART_LIMIT, RECORD_LIMIT}
+use Rattle.plan_import.specs.declared.TheConstants.{BASE_BYTE_LIMIT}
 use Rattle.row_text.specs.Row.{◌>>=◌}
 use Rattle.row_text.specs.Open.{open_row_of}
 use Rattle.plan_import.specs.declared.ImportFault.{ImportFault}
-use Rattle.plan_import.specs.BaseFile.{byte_limit, base_records, numbered, with_new, with_numbered, with_records, within_limits, base_of_records, base_of}
+use Rattle.plan_import.specs.BaseFile.{base_records, numbered, with_new, with_numbered, with_records, within_limits, base_of_records, base_of}
 use Rattle.sessions.specs.Plans.{has_no_bills}
 use Rattle.sessions.proofs.NoBills.{NoBill, row_key, open_none, with_one}
 
@@ -36,7 +38,7 @@ all_rows k c (fields ∷ rows) h = by_first (λ d plain. all_rows (k + 1) d rows
 
 in_limits : (c : Contents) → has_no_bills c ≡ true → Plain (within_limits c)
 unfolding Plain within_limits
-in_limits c h = by_tests _ _ _ (nat_lt part_limit (part_count c)) (nat_lt record_limit (length c)) (has_horizon c)
+in_limits c h = by_tests _ _ _ (nat_lt PART_LIMIT (part_count c)) (nat_lt RECORD_LIMIT (length c)) (has_horizon c)
   where
     by_tests : (e f g : ImportFault) (a b d : Bool) → Plain (cond a (Err e) (cond b (Err f) (cond d (Ok c) (Err g))))
     by_tests e f g true b d = tt
@@ -46,7 +48,7 @@ in_limits c h = by_tests _ _ _ (nat_lt part_limit (part_count c)) (nat_lt record
 
 whole_base : (bytes : List ℕ) → Plain (base_of bytes)
 unfolding Plain base_of base_of_records
-whole_base bytes = by_size _ (nat_lt byte_limit (length bytes))
+whole_base bytes = by_size _ (nat_lt BASE_BYTE_LIMIT (length bytes))
   where
     then_limits : (read : Result Contents ImportFault) → Plain read → Plain (read >>= within_limits)
     then_limits (Ok c) plain = in_limits c plain

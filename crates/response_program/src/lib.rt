@@ -6,6 +6,3 @@ mod run;
 mod words;
 
 pub use run::response;
-
-#[cfg(test)]
-mod tests;

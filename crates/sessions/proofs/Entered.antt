@@ -25,7 +25,7 @@ use Rattle.plan_book.specs.declared.ground.Ground.{Ground}
 use Rattle.plan_book.specs.History.{Story, history, entries_in, point_of, entry_for}
 use Rattle.plan_book.specs.declared.fault.BookFault.{BookFault}
 use Rattle.plan_book.specs.declared.fault.BookFault.TheVariants as faults
-use Rattle.plan_book.specs.Answers.{IsChangeAnswer, told, IsAccepted, IsRefused, IsFailed}
+use Rattle.plan_book.specs.Answers.{IsChangeAnswer, refusal_of, told, IsAccepted, IsRefused, IsFailed}
 use Rattle.command_words.specs.declared.command.Command.{Command}
 use Rattle.session_rules.specs.Requests.{Wish, Makes, Asks, wish_of}
 use Rattle.sessions.specs.Answered.{IsAnswered}
@@ -196,9 +196,9 @@ module _ (terms : Terms) (began : Ground) (old new : Story) (user : Name) (line 
       → (history began new ≡ history began old) ⊎ AnswersIn terms began old new user line (Makes change) (replies.Ok (length (history began new)))
   failed faults faults_then may plain h = by_either h.either
     where
-      by_either : (new ≡ old) ⊎ (new ≡ told old entry) → (history began new ≡ history began old) ⊎ AnswersIn terms began old new user line (Makes change) (replies.Ok (length (history began new)))
+      by_either : (new ≡ old) ⊎ ((refusal_of began old entry ≡ None) × (new ≡ told old entry)) → (history began new ≡ history began old) ⊎ AnswersIn terms began old new user line (Makes change) (replies.Ok (length (history began new)))
       by_either (inl same) = inl (ap (history began) same)
-      by_either (inr more) = inr (accepted (length (history began new)) may plain (record { allowed = h.allowed; entered = more; number_is = refl }))
+      by_either (inr more) = inr (accepted (length (history began new)) may plain (record { allowed = more.0; entered = more.1; number_is = refl }))
 
 -- what a fault of the book tells
 pub refused_by : {began : Ground} {before after : Story} {entry : Entry} {point : ℕ} {refusal : Refusal} (count then : ℕ) (fault : BookFault) → fault ≡ faults.Refused point refusal

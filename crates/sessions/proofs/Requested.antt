@@ -14,7 +14,7 @@ use Rattle.row_text.specs.Row.{text_at, name_at, end_at, ◌>>=◌}
 use Rattle.row_text.specs.Open.{is_closed_word}
 use Rattle.command_words.specs.Words.{words_of}
 use Rattle.command_words.specs.Verbs.{verb_of}
-use Rattle.command_words.specs.Commands.{command_of, command_of_verb, with_word, in_fields, behind_scenario, only_name, two_names, hello_of, point_of, put_of, del_of, plan_of, quit_of}
+use Rattle.command_words.specs.Commands.{command_of, command_of_verb, with_word, in_query, in_fields, behind_scenario, only_name, two_names, hello_of, point_of, put_of, del_of, plan_of, quit_of}
 use Rattle.command_words.specs.declared.command.Command.{Command}
 use Rattle.command_words.specs.declared.command.Command.TheVariants as commands
 use Rattle.command_words.specs.declared.reply.Bad.{Bad}
@@ -38,10 +38,16 @@ and_so : (a b : Bool) → a ≡ true → (a && b) ≡ false → b ≡ false
 and_so true b is h = h
 and_so false b is h = cc
 
+-- the look into a query leaves a command that is served
+still_open : (command : Command) → is_opened command ≡ true → IsOpen (in_query command)
+unfolding IsOpen
+still_open (commands.Select scenario query) h = cc
+still_open command h = h
+
 -- one or two names, and no word behind
 named : {A : Type 0} (first : Result A FieldFault) (f : A → Command) → ((x : A) → is_opened (f x) ≡ true) → IsOpen (in_fields (first >>= (λ x. Ok (f x))))
 unfolding IsOpen
-named (Ok x) f h = h x
+named (Ok x) f h = still_open (f x) (h x)
 named (Err fault) f h = tt
 
 hello_open : (words : List (List ℕ)) → IsOpen (in_fields (hello_of words))
@@ -66,7 +72,7 @@ behind : {A : Type 0} (key : A → Key) (f : List ℕ → A → Command) (scenar
 unfolding IsOpen NoBill
 behind key f (Err fault) row h none = tt
 behind key f (Ok s) (Err fault) h none = tt
-behind key f (Ok s) (Ok x) h none = h s x none
+behind key f (Ok s) (Ok x) h none = still_open (f s x) (h s x none)
 
 third : (words : List (List ℕ)) → slice_get (drop 2 words) 0 ≡ slice_get words 2
 third [] = refl

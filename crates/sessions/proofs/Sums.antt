@@ -17,7 +17,8 @@ use Rattle.plan_schema.specs.declared.key.Record.TheVariants as records
 use Rattle.plan_schema.specs.Key.{name_eq}
 use Rattle.plan_schema.specs.Sound.{is_sound_row, are_sound_rows, is_sound_key, record_has_names, is_within}
 use Rattle.plan_schema.specs.Contents.{Contents, is_ordered}
-use Rattle.plan_schema.specs.Base.{is_base, has_horizon, part_count, part_limit, record_limit}
+use Rattle.plan_schema.specs.Base.{is_base, has_horizon, part_count}
+use Rattle.plan_schema.specs.declared.limits.TheConstants.{PART_LIMIT, RECORD_LIMIT}
 use Rattle.planning_rules.specs.Days.{counts_on}
 use Rattle.planning_rules.specs.Plan.{Order, demand_in, receipt_in, demands_of, receipts_of, counted, total}
 use Rattle.sessions.specs.declared.orders.Kind.{Kind}
@@ -99,8 +100,8 @@ total_most kind (row ∷ c) part start t h =
 -- so do those of a base come to little
 pub base_most : (kind : Kind) (c : Contents) (part : Name) (start t : ℕ) → is_base c ≡ true → total_on kind c part start t ≤ 200000000000000
 base_most kind c part start t h =
-    let first = and_parts (is_ordered c && are_sound_rows c && has_horizon c && nat_le (part_count c) part_limit) (nat_le (length c) record_limit) h in
-    let second = and_parts (is_ordered c && are_sound_rows c && has_horizon c) (nat_le (part_count c) part_limit) first.0 in
+    let first = and_parts (is_ordered c && are_sound_rows c && has_horizon c && nat_le (part_count c) PART_LIMIT) (nat_le (length c) RECORD_LIMIT) h in
+    let second = and_parts (is_ordered c && are_sound_rows c && has_horizon c) (nat_le (part_count c) PART_LIMIT) first.0 in
     let third = and_parts (is_ordered c && are_sound_rows c) (has_horizon c) second.0 in
     let few : length c ≤ 200000 = grind (arith, nat_tests) in
     omega (arith, few, total_most kind c part start t (and_parts (is_ordered c) (are_sound_rows c) third.0).1)

@@ -16,7 +16,7 @@ use crate::planning::{PlanFault, plan_part};
 use crate::records::horizon_in;
 use command_words::{Lines, Reply};
 use plan_book::{BookFault, PlanBook};
-use plan_schema::{Contents, Day, Name, Outcome, Qty, Quantities, Steps};
+use plan_schema::{Contents, Day, Name, Outcome, Qty, Steps};
 use row_text::{RowText, push_number};
 use std::alloc::{AllocError, Global};
 use std::sync::ledger::Ledger;
@@ -89,10 +89,10 @@ fn plan_lines(alloc: Global, contents: &Contents, outcome: &Outcome) -> Result<L
 fn is_eventful(outcome: &Outcome, day: u16) -> bool
     ensures { result ≡ spec.is_eventful (told outcome.now) day }
 {
-    at(&outcome.gross, day) > 0
-        || at(&outcome.sched, day) > 0
-        || at(&outcome.planned, day) > 0
-        || at(&outcome.release, day) > 0
+    at(outcome.gross.as_slice(), day) > 0
+        || at(outcome.sched.as_slice(), day) > 0
+        || at(outcome.planned.as_slice(), day) > 0
+        || at(outcome.release.as_slice(), day) > 0
 }
 
 /// The line of a day. What is late is told on the first.
@@ -102,11 +102,11 @@ fn plan_line(start: &Day, outcome: &Outcome, day: u16) -> RowText
 {
     let mut text = RowText::new();
     push_date(&mut text, start, day);
-    push_number(&mut text, at(&outcome.gross, day));
-    push_number(&mut text, at(&outcome.sched, day));
-    push_number(&mut text, at(&outcome.planned, day));
-    push_number(&mut text, at(&outcome.balance, day));
-    push_number(&mut text, at(&outcome.release, day));
+    push_number(&mut text, at(outcome.gross.as_slice(), day));
+    push_number(&mut text, at(outcome.sched.as_slice(), day));
+    push_number(&mut text, at(outcome.planned.as_slice(), day));
+    push_number(&mut text, at(outcome.balance.as_slice(), day));
+    push_number(&mut text, at(outcome.release.as_slice(), day));
     push_number(&mut text, if day == 0 { outcome.late } else { 0 });
     text
 }
@@ -125,7 +125,7 @@ fn push_date(text: &mut RowText, start: &Day, day: u16)
 }
 
 /// The number of a day.
-fn at(numbers: &Quantities, day: u16) -> Qty
+fn at(numbers: &[Qty], day: u16) -> Qty
     ensures { result ≡ slice_index numbers.now day }
 {
     numbers.get(day as usize).copied().unwrap_or(0)

@@ -1,10 +1,11 @@
 use Rattle.std.proofs.Common.{◌≡◌, ℕ, ◌+◌, ◌-◌, ◌<◌, ◌≤◌, ◌∙◌, length, take, List, Result, Ok, Err, ap, sym, subst, arith, ◌++◌, length-append}
 use Rattle.std.specs.Prelude.{IsErrAnd}
 use Rattle.std.proofs.lemmas.List.{length-take}
+use Rattle.plan_schema.proofs.Writes.{rose_after}
 use Rattle.byte_lines.specs.declared.reading.ReadAllFault.{ReadAllFault}
-use Rattle.byte_lines.specs.declared.reading.ReadAllFault.TheVariants.{Memory}
+use Rattle.byte_lines.specs.declared.reading.ReadAllFault.TheVariants.{Failed, Memory}
 use Rattle.byte_lines.specs.ReadAll.{ReadAll}
-use Rattle.byte_lines.proofs.ReadSteps.{gave_front, gave_untold, read_whole, read_front, read_large, read_more}
+use Rattle.byte_lines.proofs.ReadSteps.{gave_front, gave_untold, failed_behind, failed_untold, read_whole, read_front, read_large, read_more}
 use Rattle.byte_lines.proofs.reading.read_all.Goals as goal
 
 pub returns-then-count-eq0 : goal.returns-then-count-eq0
@@ -44,6 +45,28 @@ returns-then-count-room g c =
 memory_error : (result : Result (List ℕ) ReadAllFault) → IsErrAnd result (λ fault. fault ≡ Memory) → result ≡ Err Memory
 memory_error (Ok bytes) h = absurd h
 memory_error (Err fault) h = ap Err h
+
+-- a fault of the source
+failed_error : (result : Result (List ℕ) ReadAllFault) → IsErrAnd result (λ fault. fault ≡ Failed) → result ≡ Err Failed
+failed_error (Ok bytes) h = absurd h
+failed_error (Err fault) h = ap Err h
+
+pub returns-in_err-count : goal.returns-in_err-count
+returns-in_err-count g c =
+    let i = c.loop-bytes.invariant in
+    let leaves = c.in_err-count.ensures.bytes in
+    let is : c.from_residual.result ≡ Err Failed = failed_error _ c.from_residual.ensures.1 in
+    subst (λ (r : Result (List ℕ) ReadAllFault). ReadAll {S = g.row.S.Denot} g.S.Source.left g.S.Source.faults g.S.Source.label c.args.most c.args.source.now c.read_piece.new.source r) (sym is)
+    (record {
+      fits = tt;
+      whole = λ before e. tt;
+      front = λ before e. failed_behind _ _ _ _ (i.told before e) leaves;
+      large = λ before e no. cc;
+      untold = λ e. failed_untold _ _ (i.untold e) leaves;
+      later = omega (arith, i.later, c.in_err-count.ensures.cause.later);
+      failed = λ _. rose_after _ _ _ i.later (c.in_err-count.ensures.cause.failed);
+      same = c.in_err-count.ensures.same ∙ i.same;
+    })
 
 pub returns-in_err-extend : goal.returns-in_err-extend
 returns-in_err-extend g c =

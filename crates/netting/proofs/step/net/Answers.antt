@@ -15,5 +15,5 @@ pub returns-clause-fits : goal.returns-clause-fits
 returns-clause-fits g c =
     let release : c.in-Ok.release.items ≡ releases c.args.input.now.calendar c.args.input.now.lead c.in_ok-days.days.planned.items =
     c.in-Ok.ensures.release ∙ ap (releases c.args.input.now.calendar c.args.input.now.lead) c.as_slice.ensures.value in
-    rw c.from_vec-2.ensures (not_large (given c.args.input.now) c.in_ok-days.days.planned.items c.in-Ok.release.items c.requires.gross c.in_ok-days.ensures.small release
+    rw c.from_vec.ensures (not_large (given c.args.input.now) c.in_ok-days.days.planned.items c.in-Ok.release.items c.requires.gross c.in_ok-days.ensures.small release
     (ap exceeds (sym c.as_slice-2.ensures.value) ∙ sym c.exceeds_limit.ensures ∙ c.if-exceeds_limit.false))

@@ -1,6 +1,8 @@
 pub mod Bills
 pub mod Days
+pub mod BestLots
 pub mod Amounts
+pub mod Shortages
 pub mod Netting
 pub mod Plan
 pub mod Refused

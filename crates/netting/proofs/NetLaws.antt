@@ -17,8 +17,9 @@ use Rattle.planning_rules.specs.Netting.{Netted, balance_on, balances, exceeds, 
 use Rattle.planning_rules.proofs.NettedLaws.{prefix_same, order_unique, netted_unique}
 use Rattle.netting.proofs.Going.{Going, going_on}
 use Rattle.planning_rules.specs.Amounts.{IsAmount}
+use Rattle.planning_rules.proofs.BestLotLaws.{first_enough}
 use Rattle.planning_rules.specs.Netting.{Input, IsOrder, short_on, later, days}
-use Rattle.lot_sizing.specs.Shortages.{shortage, IsAmountFor}
+use Rattle.planning_rules.specs.Shortages.{shortage, IsAmountFor}
 use Rattle.netting.specs.Shortages.{shortages}
 
 to_suc : (s b k : ℕ) (gross sched : List ℕ) → (s + sum (take (k + 1) gross)) - (b + sum (take (k + 1) sched)) ≡ (s + sum (take (suc k) gross)) - ((b + sum (take (suc k) sched)) + 0)
@@ -109,6 +110,7 @@ amount_covers (lot.Fixed q) short a after h m = m.0.0
 amount_covers (lot.Least least more) short a after h m = let le : max short least ≤ a = m.0.0 in omega arith
 amount_covers (lot.Period zero) short a after h m = let no : 1 ≤ 0 = h.0 in absurd (omega arith)
 amount_covers (lot.Period (suc p)) short a after h m = m.0.0
+amount_covers (lot.Best setup hold) short a after h m = first_enough setup hold short a after m
 
 pub order_covers : (x : Input) (made t a : ℕ) → IsSoundLot x.lot → IsOrder x made t a → short_on x made t ≤ a
 order_covers x made t a h o =

@@ -1,13 +1,14 @@
 //! The step of one part.
-ghost use Rattle.std.specs.Prelude.{◌≡◌, ℕ, ◌+◌, ◌-◌, ◌<◌, ◌≤◌, [], List, Bool, true, false, length, map, reverse, All, IsTrue, IfOk, IfErr, slice_index};
+ghost use Rattle.std.specs.Prelude.{◌≤ℤ◌, pos, slice_index_or, ◌≡◌, ℕ, ◌+◌, ◌-◌, ◌<◌, ◌≤◌, [], List, Bool, true, false, length, map, reverse, All, IsTrue, IfOk, IfErr, slice_index};
 ghost use Rattle.planning_rules.specs.Days.{back, working_before};
 ghost use Rattle.planning_rules.specs.Netting.{IsOrder, Netted, limit, exceeds, balances, releases, late_sum, is_too_large, outcome_from};
 ghost use Rattle.plan_schema.specs.Sound.{is_sound_lot};
-ghost use Rattle.lot_sizing.specs.Shortages.{shortage, InReach};
+ghost use Rattle.planning_rules.specs.Shortages.{shortage, InReach, IsAmountFor};
 ghost use Rattle.netting.specs.Inputs.{IsWithin, given, WhereLarge, told};
 ghost use Rattle.netting.specs.Shortages.{shortages};
 ghost use Rattle.netting.specs.Windows.{looked};
 
+use lot_optimal::first_amount;
 use lot_sizing::lot;
 use plan_calendar::Calendar;
 use plan_schema::{Lot, NetFault, Outcome, Qty, Quantities, Series, Steps};
@@ -68,6 +69,7 @@ fn looked_at(rule: &Lot, left: usize) -> usize
     match rule {
         Lot::Period(days) => left.min(*days as usize),
         Lot::Exact | Lot::Fixed(_) | Lot::Least { .. } => 1,
+        Lot::Best { .. } => left,
     }
 }
 
@@ -99,7 +101,22 @@ fn order_of(
     let days = looked_at(rule, gross.len());
     let short = &mut short[..days];
     fill_short(short, balance, safety, &gross[..days], &sched[..days]);
-    lot(rule, short)
+    amount_of(rule, short)
+}
+
+/// The amount of a lot rule for what is short.
+fn amount_of(rule: &Lot, short: &[i64]) -> u64
+    requires some { 1 ≤ length short.now }
+    requires days { length short.now ≤ 400 }
+    requires first { pos 1 ≤ℤ slice_index_or short.now 0 (pos 0) }
+    requires reach { All InReach short.now }
+    requires rule { is_sound_lot rule.now ≡ true }
+    ensures { IsAmountFor rule.now short.now result }
+{
+    match rule {
+        Lot::Best { setup, hold } => first_amount(*setup, *hold, short),
+        Lot::Exact | Lot::Fixed(_) | Lot::Least { .. } | Lot::Period(_) => lot(rule, short),
+    }
 }
 
 /// Orders and balances in order of days.

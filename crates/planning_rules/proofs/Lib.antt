@@ -18,3 +18,4 @@ pub mod PegLaws
 pub mod PromiseLaws
 pub mod Worked
 pub mod WorkedBest
+pub mod WorkedTraces

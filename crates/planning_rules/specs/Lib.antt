@@ -8,6 +8,7 @@ pub mod Plan
 pub mod Refused
 pub mod Pegs
 pub mod Promise
+pub mod Trace
 pub mod Laws
 pub use Rattle.plan_schema.specs.Key
 pub use Rattle.plan_schema.specs.Contents

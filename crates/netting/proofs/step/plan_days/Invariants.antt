@@ -2,7 +2,7 @@ use Rattle.std.proofs.Common.{◌+◌, ◌*◌, ◌≤◌}
 use Rattle.std.specs.Prelude.{All}
 use Rattle.planning_rules.specs.Netting.{limit}
 use Rattle.netting.specs.Inputs.{given}
-use Rattle.netting.proofs.Going.{Going}
+use Rattle.netting.specs.Going.{Going}
 use Rattle.netting.proofs.NetLaws.{Balanced}
 use Rattle.netting.proofs.step.plan_days.Given as goal
 

@@ -1,6 +1,7 @@
 //! Least-cost lots without a setup, without holding, of one day, and of equal costs; and what is proved of their costs.
-use crate::{CostRow, Costs, check, costs, fill_best, first_amount};
+use crate::{check, costs, fill_best, first_amount};
 use plan_schema::Series;
+use std::alloc::AllocError;
 
 /// What is short where 10, 60, 15 and 40 are needed on four days.
 const SHORT: [i64; 4] = [10, 70, 85, 125];

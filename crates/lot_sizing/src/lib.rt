@@ -6,13 +6,11 @@ ghost use Rattle.planning_rules.specs.Amounts.{rounded_up, greatest, is_best};
 ghost use Rattle.plan_schema.specs.Sound.{is_sound_lot};
 ghost use Rattle.planning_rules.specs.Shortages.{shortage, IsAmountFor, InReach};
 
-#[cfg(test)]
-mod tests;
-
 use plan_schema::{Lot, Qty};
 
 /// The amount that a lot rule orders on a day, by how much the day and the days after it fall short if nothing is planned:
-/// the safety stock minus the balance, so below 0 where there is more than enough.
+/// the safety stock minus the balance, so below 0 where there is more than enough. A least-cost lot is no matter of one day: its whole
+/// list is made by `lot_optimal`.
 #[tactic(auto, using(crate::proofs::LotLaws::sound_lot))]
 pub fn lot(rule: &Lot, short: &[i64]) -> Qty
     requires some { 1 ≤ length short.now }

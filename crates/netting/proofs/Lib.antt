@@ -3,4 +3,3 @@ pub mod NetLaws
 pub mod Passed
 pub mod Released
 pub mod Windows
-pub mod Within

@@ -1,19 +1,12 @@
 -- What the rows of a proof imply.
-use Rattle.std.proofs.Common.{◌≡◌, ℕ, zero, suc, ◌+◌, ◌-◌, ◌*◌, ◌<◌, ◌≤◌, inl, inr, List, [], ◌∷◌, min, max, Bool, ◌&&◌, ◌==◌, refl, sym, ◌∙◌, ap, subst, arith, le_refl, true, false}
+use Rattle.std.proofs.Common.{◌≡◌, ℕ, zero, suc, ◌+◌, ◌-◌, ◌*◌, ◌≤◌, List, [], ◌∷◌, ◌&&◌, ◌==◌, refl, subst, arith, true}
 use Rattle.std.specs.Prelude.{nat_le}
-use Rattle.std.proofs.lemmas.Bool.{and_parts}
-use Rattle.std.proofs.lemmas.Bool.Decides.{nat_tests}
-use Rattle.planning_rules.specs.BestLots.{needs, IsCovered, cost, least_after, least_cost}
+use Rattle.std.proofs.lemmas.Bool.{and_parts, eqb-true, leb-true}
+use Rattle.planning_rules.specs.BestLots.{needs, cost, least_after, least_cost}
 use Rattle.lot_optimal.specs.declared.rows.CostRow.{CostRow}
 use Rattle.lot_optimal.specs.declared.rows.Costs.{Costs}
-use Rattle.lot_optimal.specs.Costs.{are_rows, before_order, are_amounts, begins, spread, first_potential, is_low, are_low, is_proof, IsLeastCost}
+use Rattle.lot_optimal.specs.Costs.{are_rows, are_amounts, begins, spread, first_potential, is_low, are_low, is_proof, IsLeastCost}
 use Rattle.planning_rules.proofs.LeastCost.{enough_costs}
-
-le_of : (a b : ℕ) → nat_le a b ≡ true → a ≤ b
-le_of a b h = grind (arith, nat_tests)
-
-is_of : (a b : ℕ) → (a == b) ≡ true → a ≡ b
-is_of a b h = grind (arith, nat_tests)
 
 -- the potentials of the rows are at most the least costs
 abbrev pub AreBelow : ℕ → ℕ → List ℕ → List CostRow → Type 0
@@ -25,7 +18,7 @@ AreBelow setup hold (suc n ∷ wants) (row ∷ rows) = (row.potential ≤ least_
 -- a potential that is low is at most what the rest costs after an order on its day
 low_is_below : (setup hold at since potential paid : ℕ) (wants : List ℕ) (rows : List CostRow) → are_rows (at + since) wants rows ≡ true → is_low hold at potential paid rows ≡ true
     → AreBelow setup hold wants rows → potential ≤ paid + least_after setup hold since wants
-low_is_below setup hold at since potential paid [] [] fit low below = let le = le_of potential paid low in omega arith
+low_is_below setup hold at since potential paid [] [] fit low below = let le = leb-true potential paid low in omega arith
 low_is_below setup hold at since potential paid [] (row ∷ rows) fit low below = absurd (cc)
 low_is_below setup hold at since potential paid (zero ∷ wants) rows fit low below =
     let next : suc (at + since) ≡ at + suc since = omega arith in
@@ -34,10 +27,10 @@ low_is_below setup hold at since potential paid (suc n ∷ wants) [] fit low bel
 low_is_below setup hold at since potential paid (suc n ∷ wants) (row ∷ rows) fit low below =
     let parts = and_parts ((row.at == at + since) && (row.need == suc n)) (are_rows (suc (at + since)) wants rows) fit in
     let own = and_parts (row.at == at + since) (row.need == suc n) parts.0 in
-    let at_is = is_of row.at (at + since) own.0 in
-    let need_is = is_of row.need (suc n) own.1 in
+    let at_is = eqb-true row.at (at + since) own.0 in
+    let need_is = eqb-true row.need (suc n) own.1 in
     let lows = and_parts (nat_le potential (paid + row.potential)) (is_low hold at potential (paid + hold * (row.need * (row.at - at))) rows) low in
-    let here = le_of potential (paid + row.potential) lows.0 in
+    let here = leb-true potential (paid + row.potential) lows.0 in
     let next : suc (at + since) ≡ at + suc since = omega arith in
     let rest = low_is_below setup hold at (suc since) potential (paid + hold * (row.need * (row.at - at))) wants rows (subst (λ day. are_rows day wants rows ≡ true) next parts.1) lows.1 below.1 in
     let apart : row.at - at ≡ since = omega arith in
@@ -52,7 +45,7 @@ rows_are_below setup hold day (suc n ∷ wants) [] fit low = tt
 rows_are_below setup hold day (suc n ∷ wants) (row ∷ rows) fit low =
     let parts = and_parts ((row.at == day) && (row.need == suc n)) (are_rows (suc day) wants rows) fit in
     let own = and_parts (row.at == day) (row.need == suc n) parts.0 in
-    let at_is = is_of row.at day own.0 in
+    let at_is = eqb-true row.at day own.0 in
     let lows = and_parts (is_low hold row.at row.potential setup rows) (are_low setup hold rows) low in
     let below = rows_are_below setup hold (suc day) wants rows parts.1 lows.1 in
     let next : suc day ≡ row.at + 1 = omega arith in
@@ -72,7 +65,7 @@ pub proved_is_least : (setup hold : ℕ) (short : List ℕ) (rows : List CostRow
 proved_is_least setup hold short rows least fit low first orders h =
     let below = rows_are_below setup hold 0 (needs short) rows fit low in
     let at_most = first_below setup hold 0 (needs short) rows fit below in
-    let is = is_of least (first_potential rows) first in
+    let is = eqb-true least (first_potential rows) first in
     let costs = enough_costs setup hold short orders h in
     omega arith
 

@@ -1,27 +1,20 @@
 -- The rows that are made of the best list are a proof.
-use Rattle.std.proofs.Common.{◌≡◌, ℕ, zero, suc, ◌+◌, ◌-◌, ◌*◌, ◌<◌, ◌≤◌, inl, inr, List, [], ◌∷◌, ◌++◌, length, take, drop, get_or, Bool, ◌&&◌, ◌||◌, ◌==◌, refl, sym, ◌∙◌, ap, subst, arith, le_refl, true, false, add-one, append_assoc}
-use Rattle.std.specs.Prelude.{nat_le, nat_lt, if◌then◌else◌}
+use Rattle.std.proofs.Common.{◌≡◌, ℕ, zero, suc, ◌+◌, ◌-◌, ◌*◌, ◌<◌, ◌≤◌, List, [], ◌∷◌, ◌++◌, length, drop, get_or, ◌==◌, refl, sym, ◌∙◌, ap, subst, arith, le_refl, true, false, add-one, append_assoc}
 use Rattle.std.proofs.Math.Seq.{drop-cons}
+use Rattle.std.proofs.lemmas.Bool.{eq-eqb, le-leb}
 use Rattle.std.proofs.lemmas.Bool.Decides.{nat_tests}
-use Rattle.std.proofs.lemmas.List.{drop_all}
-use Rattle.planning_rules.specs.BestLots.{needs, needed, IsJust, IsSimple, cost, least_after, least_cost, best, best_after}
+use Rattle.planning_rules.specs.BestLots.{needs, needed, IsJust, IsSimple, cost, least_after, least_cost, best}
 use Rattle.lot_optimal.specs.declared.rows.CostRow.{CostRow}
 use Rattle.lot_optimal.specs.declared.rows.Costs.{Costs}
 use Rattle.lot_optimal.specs.Costs.{are_rows, before_order, are_amounts, begins, spread, first_potential, is_low, are_low, is_proof, rows_of}
 use Rattle.planning_rules.proofs.BestLotLaws.{best_is_simple, best_costs}
-
-same_nat : (a b : ℕ) → a ≡ b → (a == b) ≡ true
-same_nat a b e = grind (arith, nat_tests)
-
-le_nat : (a b : ℕ) → a ≤ b → nat_le a b ≡ true
-le_nat a b e = grind (arith, nat_tests)
 
 pub made_rows : (setup hold day : ℕ) (wants orders : List ℕ) → length orders ≡ length wants → are_rows day wants (rows_of setup hold day wants orders) ≡ true
 made_rows setup hold day [] orders h = refl
 made_rows setup hold day (n ∷ wants) [] h = absurd (omega arith)
 made_rows setup hold day (zero ∷ wants) (q ∷ orders) h = made_rows setup hold (suc day) wants orders (omega arith)
 made_rows setup hold day (suc n ∷ wants) (q ∷ orders) h =
-    rw (same_nat day day refl, same_nat (suc n) (suc n) refl) (made_rows setup hold (suc day) wants orders (omega arith))
+    rw (eq-eqb day day refl, eq-eqb (suc n) (suc n) refl) (made_rows setup hold (suc day) wants orders (omega arith))
 
 just_length : (wants orders : List ℕ) → IsJust wants orders → length orders ≡ length wants
 just_length [] [] h = refl
@@ -48,7 +41,7 @@ made_amounts setup hold day (suc n ∷ wants) (zero ∷ orders) h = made_amounts
 made_amounts setup hold day (suc n ∷ wants) (suc q ∷ orders) h =
     let some : (suc q == 0) ≡ false = grind (arith, nat_tests) in
     let before = made_before setup hold (suc day) wants orders h.2 in
-    let same : (suc q == suc n + before_order (rows_of setup hold (suc day) wants orders)) ≡ true = same_nat (suc q) _ (h.1 ∙ ap (λ k. suc n + k) (sym before)) in
+    let same : (suc q == suc n + before_order (rows_of setup hold (suc day) wants orders)) ≡ true = eq-eqb (suc q) _ (h.1 ∙ ap (λ k. suc n + k) (sym before)) in
     rw (some, same) (made_amounts setup hold (suc day) wants orders h.2)
 
 made_begins : (setup hold day : ℕ) (wants orders : List ℕ) → IsSimple wants orders → begins (rows_of setup hold day wants orders) ≡ true
@@ -71,7 +64,7 @@ made_spread setup hold day (suc n ∷ wants) (suc q ∷ orders) h = ap (λ qs. s
 -- the least costs are low
 made_is_low : (setup hold at since potential paid : ℕ) (wants orders : List ℕ) → length orders ≡ length wants → potential ≤ paid + least_after setup hold since wants
     → is_low hold at potential paid (rows_of setup hold (at + since) wants orders) ≡ true
-made_is_low setup hold at since potential paid [] orders h le = le_nat potential paid (omega arith)
+made_is_low setup hold at since potential paid [] orders h le = le-leb potential paid (omega arith)
 made_is_low setup hold at since potential paid (n ∷ wants) [] h le = absurd (omega arith)
 made_is_low setup hold at since potential paid (zero ∷ wants) (q ∷ orders) h le =
     let next : at + suc since ≡ suc (at + since) = omega arith in
@@ -79,9 +72,9 @@ made_is_low setup hold at since potential paid (zero ∷ wants) (q ∷ orders) h
 made_is_low setup hold at since potential paid (suc n ∷ wants) (q ∷ orders) h le =
     let next : at + suc since ≡ suc (at + since) = omega arith in
     let apart : (at + since) - at ≡ since = omega arith in
-    let here = le_nat potential (paid + (setup + least_after setup hold 1 wants)) (omega arith) in
+    let here = le-leb potential (paid + (setup + least_after setup hold 1 wants)) (omega arith) in
     let rest = subst (λ day. is_low hold at potential (paid + hold * (suc n * since)) (rows_of setup hold day wants orders) ≡ true) next
-        (made_is_low setup hold at (suc since) potential (paid + hold * (suc n * since)) wants orders (omega arith) (omega arith)) in
+    (made_is_low setup hold at (suc since) potential (paid + hold * (suc n * since)) wants orders (omega arith) (omega arith)) in
     rw (here, apart) rest
 
 made_are_low : (setup hold day : ℕ) (wants orders : List ℕ) → length orders ≡ length wants → are_low setup hold (rows_of setup hold day wants orders) ≡ true
@@ -91,7 +84,7 @@ made_are_low setup hold day (zero ∷ wants) (q ∷ orders) h = made_are_low set
 made_are_low setup hold day (suc n ∷ wants) (q ∷ orders) h =
     let next : day + 1 ≡ suc day = omega arith in
     let low = subst (λ d. is_low hold day (setup + least_after setup hold 1 wants) setup (rows_of setup hold d wants orders) ≡ true) next
-        (made_is_low setup hold day 1 (setup + least_after setup hold 1 wants) setup wants orders (omega arith) (le_refl _)) in
+    (made_is_low setup hold day 1 (setup + least_after setup hold 1 wants) setup wants orders (omega arith) (le_refl _)) in
     rw low (made_are_low setup hold (suc day) wants orders (omega arith))
 
 pub made_first : (setup hold day : ℕ) (wants orders : List ℕ) → length orders ≡ length wants → first_potential (rows_of setup hold day wants orders) ≡ least_cost setup hold wants
@@ -110,8 +103,8 @@ made_is_proof setup hold short costs rows_is cost_is =
     let first = ap begins rows_is ∙ made_begins setup hold 0 (needs short) (best setup hold (needs short)) it in
     let right = ap are_amounts rows_is ∙ made_amounts setup hold 0 (needs short) (best setup hold (needs short)) it.1 in
     let spreads = ap (λ rows. cost setup hold short (spread (needs short) rows)) rows_is ∙ ap (cost setup hold short) (made_spread setup hold 0 (needs short) (best setup hold (needs short)) it.1) ∙ best_costs setup hold short in
-    let one = same_nat costs.cost (cost setup hold short (spread (needs short) costs.rows)) (cost_is ∙ sym spreads) in
-    let two = same_nat costs.cost (first_potential costs.rows) (cost_is ∙ sym (ap first_potential rows_is ∙ made_first setup hold 0 (needs short) (best setup hold (needs short)) long)) in
+    let one = eq-eqb costs.cost (cost setup hold short (spread (needs short) costs.rows)) (cost_is ∙ sym spreads) in
+    let two = eq-eqb costs.cost (first_potential costs.rows) (cost_is ∙ sym (ap first_potential rows_is ∙ made_first setup hold 0 (needs short) (best setup hold (needs short)) long)) in
     let low = ap (are_low setup hold) rows_is ∙ made_are_low setup hold 0 (needs short) (best setup hold (needs short)) long in
     rw (fit, first, right, one, two) low
 
@@ -130,7 +123,7 @@ rows_none setup hold day wants orders h long none =
 
 pub rows_some : (setup hold day potential : ℕ) (wants orders : List ℕ) → day < length wants → length orders ≡ length wants → 0 < get_or wants day 0 → potential ≡ least_cost setup hold (drop day wants)
     → rows_of setup hold day (drop day wants) (drop day orders)
-      ≡ record { at = day; need = get_or wants day 0; quantity = get_or orders day 0; potential = potential } ∷ rows_of setup hold (day + 1) (drop (day + 1) wants) (drop (day + 1) orders)
+    ≡ record { at = day; need = get_or wants day 0; quantity = get_or orders day 0; potential = potential } ∷ rows_of setup hold (day + 1) (drop (day + 1) wants) (drop (day + 1) orders)
 rows_some setup hold day potential wants orders h long some known =
     let one : drop day wants ≡ get_or wants day 0 ∷ drop (suc day) wants = drop-cons wants day 0 h in
     let two : drop day orders ≡ get_or orders day 0 ∷ drop (suc day) orders = drop-cons orders day 0 (omega arith) in

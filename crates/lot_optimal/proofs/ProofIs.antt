@@ -1,16 +1,12 @@
 -- What is looked at one after the other is the whole proof.
-use Rattle.std.proofs.Common.{◌≡◌, ◌≢◌, ℕ, List, length, Bool, ◌&&◌, ◌==◌, refl, sym, ◌∙◌, ap, subst, arith, true, false, ◌≤◌}
-use Rattle.std.specs.Prelude.{sum_by}
-use Rattle.std.specs.List.{sum}
+use Rattle.std.proofs.Common.{◌≡◌, ◌≢◌, ℕ, List, Bool, ◌==◌, refl, sym, ◌∙◌, ap, arith, true, false}
+use Rattle.std.proofs.lemmas.Bool.{eq-eqb}
 use Rattle.std.proofs.lemmas.Bool.Decides.{nat_tests}
 use Rattle.planning_rules.specs.BestLots.{needs, cost}
 use Rattle.lot_optimal.specs.declared.rows.CostRow.{CostRow}
 use Rattle.lot_optimal.specs.declared.rows.Costs.{Costs}
 use Rattle.lot_optimal.specs.Costs.{are_rows, are_amounts, begins, spread, first_potential, are_low, is_proof, rows_cost}
-use Rattle.lot_optimal.proofs.SpreadLaws.{spread_cost, rows_sum, rows_few}
-
-same_nat : (a b : ℕ) → a ≡ b → (a == b) ≡ true
-same_nat a b e = grind (arith, nat_tests)
+use Rattle.lot_optimal.proofs.SpreadLaws.{spread_cost}
 
 other_nat : (a b : ℕ) → a ≢ b → (a == b) ≡ false
 other_nat a b e = grind (arith, nat_tests)
@@ -23,8 +19,8 @@ proof_is setup hold short wants costs rows last w e fit first right cost_is pote
     let firsts : begins costs.rows ≡ true = ap begins (sym e) ∙ first in
     let rights : are_amounts costs.rows ≡ true = ap are_amounts (sym e) ∙ right in
     let costs_is : costs.cost ≡ cost setup hold short (spread (needs short) costs.rows) = cost_is ∙ ap (rows_cost setup hold 0) e ∙ sym (spread_cost setup hold short costs.rows fits firsts rights) in
-    let one = same_nat costs.cost (cost setup hold short (spread (needs short) costs.rows)) costs_is in
-    let two = same_nat costs.cost (first_potential costs.rows) (potential_is ∙ ap first_potential e) in
+    let one = eq-eqb costs.cost (cost setup hold short (spread (needs short) costs.rows)) costs_is in
+    let two = eq-eqb costs.cost (first_potential costs.rows) (potential_is ∙ ap first_potential e) in
     low ∙ ap (are_low setup hold) e ∙ sym (rw (fits, firsts, rights, one, two) refl)
 
 pub not_the_cost : (setup hold : ℕ) (short wants : List ℕ) (costs : Costs) (rows : List CostRow) → wants ≡ needs short → rows ≡ costs.rows

@@ -1,18 +1,15 @@
 -- The orders of rows, day by day.
-use Rattle.std.proofs.Common.{◌≡◌, ℕ, zero, suc, ◌+◌, ◌-◌, ◌*◌, ◌<◌, ◌≤◌, inl, inr, List, [], ◌∷◌, length, Bool, ◌&&◌, ◌||◌, ◌==◌, refl, sym, ◌∙◌, ap, subst, arith, le_refl, true, false, eq-zero-or-pos}
-use Rattle.std.specs.Prelude.{nat_le, nat_lt, sum_by, if◌then◌else◌}
+use Rattle.std.proofs.Common.{◌≡◌, ℕ, zero, suc, ◌+◌, ◌-◌, ◌*◌, ◌<◌, ◌≤◌, List, [], ◌∷◌, length, ◌&&◌, ◌||◌, ◌==◌, refl, sym, ◌∙◌, ap, subst, arith, le_refl, true, false}
+use Rattle.std.specs.Prelude.{sum_by, if◌then◌else◌}
 use Rattle.std.specs.List.{sum}
-use Rattle.std.proofs.lemmas.Bool.{and_parts}
+use Rattle.std.proofs.lemmas.Bool.{and_parts, eqb-true}
 use Rattle.std.proofs.lemmas.Bool.Decides.{nat_tests}
 use Rattle.std.proofs.lemmas.List.Sums.{sum_by-cons}
-use Rattle.planning_rules.specs.BestLots.{needs, needed, IsJust, IsSimple, cost, least_after, least_cost}
+use Rattle.planning_rules.specs.BestLots.{needs, needed, IsJust, cost}
 use Rattle.lot_optimal.specs.declared.rows.CostRow.{CostRow}
 use Rattle.lot_optimal.specs.Costs.{are_rows, before_order, are_amounts, begins, spread, rows_cost}
 use Rattle.planning_rules.proofs.BestIsCheapest.{waiting_cost, cost_waits, cost_orders, cost_ends}
 use Rattle.planning_rules.proofs.BestLotLaws.{simple_costs}
-
-is_of : (a b : ℕ) → (a == b) ≡ true → a ≡ b
-is_of a b h = grind (arith, nat_tests)
 
 -- what the first of some rows is
 pub record IsRow (day n : ℕ) (wants : List ℕ) (row : CostRow) (rows : List CostRow) : Type 0 where
@@ -24,7 +21,7 @@ pub row_is : (day n : ℕ) (wants : List ℕ) (row : CostRow) (rows : List CostR
 row_is day n wants row rows fit =
     let parts = and_parts ((row.at == day) && (row.need == suc n)) (are_rows (suc day) wants rows) fit in
     let own = and_parts (row.at == day) (row.need == suc n) parts.0 in
-    record { at = is_of row.at day own.0; need = is_of row.need (suc n) own.1; rest = parts.1; }
+    record { at = eqb-true row.at day own.0; need = eqb-true row.need (suc n) own.1; rest = parts.1 }
 
 needed_cons : (n q : ℕ) (wants orders : List ℕ) → needed (n ∷ wants) (q ∷ orders) ≡ (if q == 0 then n + needed wants orders else 0)
 needed_cons n zero wants orders = refl
@@ -46,7 +43,7 @@ just_cons n zero wants orders h e just = just
 just_cons n (suc q) wants orders h e just =
     let some : (suc q == 0) ≡ false = grind (arith, nat_tests) in
     let same : (suc q == n + needed wants orders) ≡ true = rw some at e in
-    (h, is_of (suc q) (n + needed wants orders) same, just)
+    (h, eqb-true (suc q) (n + needed wants orders) same, just)
 
 pub spread_just : (day : ℕ) (wants : List ℕ) (rows : List CostRow) → are_rows day wants rows ≡ true → are_amounts rows ≡ true → IsJust wants (spread wants rows)
 spread_just day [] rows fit right = tt
@@ -81,9 +78,9 @@ spread_waiting setup hold last since (suc n ∷ wants) (row ∷ rows) fit =
     let apart : row.at - last ≡ since = omega arith in
     waiting_cons setup hold since (suc n) row.quantity wants (spread wants rows)
     ∙ ap (λ k. if row.quantity == 0 then hold * (suc n * since) + k else setup + waiting_cost setup hold 1 wants (spread wants rows))
-      (spread_waiting setup hold last (suc since) wants rows (subst (λ day. are_rows day wants rows ≡ true) next is.rest))
+    (spread_waiting setup hold last (suc since) wants rows (subst (λ day. are_rows day wants rows ≡ true) next is.rest))
     ∙ ap (λ k. if row.quantity == 0 then hold * (suc n * since) + rows_cost setup hold last rows else setup + k)
-      (spread_waiting setup hold row.at 1 wants rows (subst (λ day. are_rows day wants rows ≡ true) anew is.rest))
+    (spread_waiting setup hold row.at 1 wants rows (subst (λ day. are_rows day wants rows ≡ true) anew is.rest))
     ∙ ap (λ k. if row.quantity == 0 then hold * (k * since) + rows_cost setup hold last rows else setup + rows_cost setup hold row.at rows) (sym is.need)
     ∙ ap (λ k. if row.quantity == 0 then hold * (row.need * k) + rows_cost setup hold last rows else setup + rows_cost setup hold row.at rows) (sym apart)
 

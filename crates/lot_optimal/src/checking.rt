@@ -135,7 +135,11 @@ fn waiting(hold: u64, need: u64, days: u16) -> u128
 pub(crate) fn potential_of(rows: &[CostRow]) -> u128
     ensures { result ≡ first_potential rows.now }
 {
-    if rows.is_empty() { 0 } else { rows[0].potential }
+    if rows.is_empty() {
+        0
+    } else {
+        rows[0].potential
+    }
 }
 
 /// Whether each potential is that low.

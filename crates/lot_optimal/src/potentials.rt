@@ -25,7 +25,10 @@ fn look_back(hold: u64, need: u64, day: usize, potential: u128, next: First) -> 
     }
     let waits = hold as u128 * (need as u128 * day as u128) + next.cost;
     if potential <= waits {
-        First { cost: potential, amount: 0 }
+        First {
+            cost: potential,
+            amount: 0,
+        }
     } else {
         First {
             cost: waits,

@@ -1,4 +1,4 @@
-pub mod Going
+pub mod DayByDay
 pub mod NetLaws
 pub mod Passed
 pub mod Released

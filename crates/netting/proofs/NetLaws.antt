@@ -2,7 +2,7 @@
 use Rattle.std.proofs.Common.{◌≡◌, ℕ, suc, zero, ◌+◌, ◌-◌, ◌<◌, ◌≤◌, inl, inr, List, [], ◌∷◌, ◌++◌, length, take, drop, get_or, map, max, refl, sym, ◌∙◌, ap, subst, arith, add-one, ltb, below_more, eq-zero-or-pos, le_refl, Bool, true, false, ◌||◌}
 use Rattle.std.specs.Prelude.{ℤ, pos, All}
 use Rattle.std.specs.List.{sum, range_with_len}
-use Rattle.std.proofs.lemmas.List.{get_or-map, length-map, length-drop, get_or-drop}
+use Rattle.std.proofs.lemmas.List.{get_or-map, length-map, length-drop}
 use Rattle.std.proofs.lemmas.List.FromFn.{fill_by_all}
 use Rattle.std.proofs.lemmas.List.Sums.{sum_by-append}
 use Rattle.std.proofs.Math.Seq.{take-add}
@@ -15,14 +15,14 @@ use Rattle.plan_schema.specs.declared.key.Lot.TheVariants as lot
 use Rattle.lot_sizing.proofs.LotLaws.{IsSoundLot}
 use Rattle.planning_rules.specs.Netting.{Netted, balance_on, balances, exceeds, limit, there, releases, is_too_large}
 use Rattle.planning_rules.proofs.NettedLaws.{short_is, prefix_same, order_unique, netted_unique}
-use Rattle.netting.specs.Going.{Going, AreBest}
-use Rattle.planning_rules.specs.BestLots.{needs, best}
+use Rattle.netting.specs.DayByDay.{IsPlannedTo, AreBest, begun}
 use Rattle.planning_rules.proofs.PlannedBest.{best_order}
-use Rattle.planning_rules.specs.Amounts.{IsAmount, is_best}
+use Rattle.planning_rules.specs.Amounts.{IsAmount}
 use Rattle.planning_rules.proofs.BestLotLaws.{first_enough}
 use Rattle.planning_rules.specs.Netting.{Input, IsOrder, NettedTo, short_on, later, days}
 use Rattle.planning_rules.specs.Shortages.{shortage, IsAmountFor}
 use Rattle.netting.specs.Shortages.{shortages}
+use Rattle.lot_optimal.proofs.Filled.{rest_is}
 
 to_suc : (s b k : ℕ) (gross sched : List ℕ) → (s + sum (take (k + 1) gross)) - (b + sum (take (k + 1) sched)) ≡ (s + sum (take (suc k) gross)) - ((b + sum (take (suc k) sched)) + 0)
 to_suc s b k gross sched =
@@ -35,10 +35,6 @@ pub shortages_all : (short : List ℤ) (b s : ℕ) (gross sched : List ℕ) → 
 shortages_all short b s gross sched same each =
     fill_by_all (λ k. (s + sum (take (suc k) gross)) - ((b + sum (take (suc k) sched)) + 0)) (map shortage short) (length gross) 0 (length-map short shortage ∙ same)
     (λ k h. get_or-map shortage short k (pos 0) 0 (let l : k < length short = omega (arith, same) in l) ∙ each k h ∙ to_suc s b k gross sched)
-
--- the input that begins at a day, with the balance before it as its stock
-abbrev pub begun : Lot → ℕ → ℕ → List ℕ → List ℕ → Input
-begun rule balance safety gross sched = record { stock = balance; safety = safety; lot = rule; lead = 0; calendar = []; gross = gross; sched = sched }
 
 -- the first order of such an input, by the amount for its shortages
 pub first_order : (rule : Lot) (balance safety a : ℕ) (gross sched : List ℕ) (short : List ℤ) → 1 ≤ length gross → 1 ≤ length short → map shortage short ≡ shortages balance safety gross sched
@@ -118,7 +114,7 @@ pub order_covers : (x : Input) (made t a : ℕ) → IsSoundLot x.lot → IsOrder
 order_covers x made t a h o =
     elim (eq-zero-or-pos (short_on x made t)) [ inl e ↦ omega arith | inr more ↦ amount_covers x.lot (short_on x made t) a (later x made t) h (o.short more) ]
 
-pub day_covers : (x : Input) (t balance a : ℕ) (p : List ℕ) → IsSoundLot x.lot → Going x t p balance → t < length x.gross → t < length x.sched → IsOrder x (sum p) t a
+pub day_covers : (x : Input) (t balance a : ℕ) (p : List ℕ) → IsSoundLot x.lot → IsPlannedTo x t p balance → t < length x.gross → t < length x.sched → IsOrder x (sum p) t a
     → x.safety + get_or x.gross t 0 ≤ (balance + get_or x.sched t 0) + a
 day_covers x t balance a p h g hg hs o = omega (arith, order_covers x (sum p) t a h o, short_is x (sum p) t balance hg hs g.balanced)
 
@@ -135,14 +131,14 @@ balance_kept x p a k h =
 balance_plain : (stock b g s made : ℕ) → b + g ≡ (stock + s) + made → ((stock + s) + made) - g ≡ b
 balance_plain stock b g s made e = omega arith
 
-balance_here : (x : Input) (t : ℕ) (p : List ℕ) (b : ℕ) → Going x (t + 1) p b → balance_on x p t ≡ b
+balance_here : (x : Input) (t : ℕ) (p : List ℕ) (b : ℕ) → IsPlannedTo x (t + 1) p b → balance_on x p t ≡ b
 balance_here x t p b g =
     let all : take (suc t) p ≡ p = take_all (suc t) p (omega (arith, g.orders.whole)) in
     ap (λ q. there x (sum q) t - sum (take (suc t) x.gross)) all
     ∙ balance_plain x.stock b (sum (take (suc t) x.gross)) (sum (take (suc t) x.sched)) (sum p)
     (subst (λ n. b + sum (take n x.gross) ≡ (x.stock + sum (take n x.sched)) + sum p) (add-one t) g.balanced)
 
-pub balanced_push : (x : Input) (t : ℕ) (p bs : List ℕ) (a b : ℕ) → length p ≡ t → Balanced x t p bs → Going x (t + 1) (p ++ a ∷ []) b → Balanced x (t + 1) (p ++ a ∷ []) (bs ++ b ∷ [])
+pub balanced_push : (x : Input) (t : ℕ) (p bs : List ℕ) (a b : ℕ) → length p ≡ t → Balanced x t p bs → IsPlannedTo x (t + 1) (p ++ a ∷ []) b → Balanced x (t + 1) (p ++ a ∷ []) (bs ++ b ∷ [])
 balanced_push x t p bs a b len kept g = record {
   whole = length-append bs (b ∷ []) ∙ (let e : length bs + 1 ≡ t + 1 = omega (arith, kept.whole) in e);
   each = below_more (λ k. get_or (bs ++ b ∷ []) k 0 ≡ balance_on x (p ++ a ∷ []) k) t
@@ -163,10 +159,6 @@ large_here x t p a g ht o large q n =
     let is : get_or q t 0 ≡ a = order_unique x (sum (take t q)) t _ _ (n.each t ht) mine in
     let within : t < length q = omega (arith, n.whole) in
     list_any_at (λ v. ltb limit v) q t 0 within (lt-ltb limit (get_or q t 0) (subst (λ v. limit < v) (sym is) large))
-
--- the days from t on, as a slice shows them
-rest_is : (xs : List ℕ) (t : ℕ) → take (length xs - t) (drop t xs) ≡ drop t xs
-rest_is xs t = take_all (length xs - t) (drop t xs) (omega (arith, length-drop t xs))
 
 pub order_told : (x : Input) (t balance a : ℕ) (gross sched : List ℕ) → gross ≡ x.gross → sched ≡ x.sched
     → IsOrder (begun x.lot balance x.safety (take (length gross - t) (drop t gross)) (take (length sched - t) (drop t sched))) 0 0 a

@@ -12,7 +12,8 @@ use Rattle.planning_rules.specs.Netting.{Input, IsOrder, short_on, later, days}
 use Rattle.netting.specs.Windows.{looked}
 use Rattle.planning_rules.specs.Shortages.{shortage, IsAmountFor}
 use Rattle.netting.specs.Shortages.{shortages}
-use Rattle.netting.proofs.NetLaws.{begun, first_order, first_short}
+use Rattle.netting.proofs.NetLaws.{first_order, first_short}
+use Rattle.netting.specs.DayByDay.{begun}
 
 pub looked_some : (rule : Lot) (left : ℕ) → IsSoundLot rule → 1 ≤ left → 1 ≤ looked rule left
 looked_some lot.Exact left h some = omega arith

@@ -5,7 +5,7 @@ ghost use Rattle.planning_rules.specs.Netting.{IsOrder, Netted, limit, exceeds, 
 ghost use Rattle.plan_schema.specs.Sound.{is_sound_lot};
 ghost use Rattle.planning_rules.specs.Shortages.{shortage, InReach};
 ghost use Rattle.planning_rules.specs.Amounts.{is_best};
-ghost use Rattle.netting.specs.Going.{Going, AreBest};
+ghost use Rattle.netting.specs.DayByDay.{IsPlannedTo, AreBest, begun};
 ghost use Rattle.netting.specs.Inputs.{IsWithin, given, WhereLarge, told};
 ghost use Rattle.netting.specs.Shortages.{shortages};
 ghost use Rattle.netting.specs.Windows.{looked};
@@ -95,7 +95,7 @@ fn order_of(
     requires kind { is_best rule.now ≡ false }
     requires gross { All (λ g. g ≤ 1000000000000000) gross.now }
     requires sched { All (λ s. s ≤ 200000000000000) sched.now }
-    ensures { IsOrder (record { stock = balance; safety = safety; lot = rule.now; lead = 0; calendar = []; gross = gross.now; sched = sched.now }) 0 0 result }
+    ensures { IsOrder (begun rule.now balance safety gross.now sched.now) 0 0 result }
 {
     if safety + gross[0] <= balance + sched[0] {
         return 0;
@@ -133,7 +133,7 @@ fn next_order(
     requires within { IsWithin input.now }
     requires day { length planned.now < length input.now.gross }
     requires balance { balance ≤ 600000000000000000 }
-    requires going { Going (given input.now) (length planned.now) planned.now balance }
+    requires going { IsPlannedTo (given input.now) (length planned.now) planned.now balance }
     requires orders { AreBest (given input.now) orders.now }
     requires days { length orders.now ≡ length input.now.gross }
     requires room { length short.old ≡ length input.now.gross }

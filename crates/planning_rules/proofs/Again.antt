@@ -1,9 +1,9 @@
 -- The best list looked at anew on each day that is short is one best list.
-use Rattle.std.proofs.Common.{◌≡◌, ℕ, zero, suc, ◌+◌, ◌-◌, ◌*◌, ◌<◌, ◌≤◌, inl, inr, List, [], ◌∷◌, map, min, max, ◌==◌, refl, sym, ◌∙◌, ap, subst, arith, le_refl, true, false}
+use Rattle.std.proofs.Common.{◌≡◌, ℕ, zero, suc, ◌+◌, ◌-◌, ◌*◌, ◌<◌, ◌≤◌, inl, inr, List, [], ◌∷◌, map, max, ◌==◌, refl, sym, ◌∙◌, ap, subst, arith, true, false}
 use Rattle.std.specs.Prelude.{if◌then◌else◌}
 use Rattle.std.proofs.lemmas.Bool.{cases_lt}
 use Rattle.std.proofs.lemmas.Bool.Decides.{nat_tests}
-use Rattle.planning_rules.specs.BestLots.{needs_after, needs, needed, least_after, least_cost, best_after, best, first_order}
+use Rattle.planning_rules.specs.BestLots.{needs_after, needs, needed, least_after, best_after, best, first_order}
 use Rattle.planning_rules.proofs.BestIsCheapest.{best_orders, best_waits, needed_ordered}
 
 -- the shortages that are left where so much is ordered
@@ -49,7 +49,7 @@ no_order setup hold made s short orders h rest = anew_enough setup hold made s s
 an_order : (setup hold made s : ℕ) (short : List ℕ) → made < s
     → anew setup hold (made + ((s - made) + needed (needs_after (max made s) short) (best_after setup hold 1 (needs_after (max made s) short)))) short ≡ best_after setup hold 1 (needs_after (max made s) short)
     → anew setup hold made (s ∷ short)
-      ≡ ((s - made) + needed (needs_after (max made s) short) (best_after setup hold 1 (needs_after (max made s) short))) ∷ best_after setup hold 1 (needs_after (max made s) short)
+    ≡ ((s - made) + needed (needs_after (max made s) short) (best_after setup hold 1 (needs_after (max made s) short))) ∷ best_after setup hold 1 (needs_after (max made s) short)
 an_order setup hold made s short h rest =
     let first : first_order (best setup hold (needs (left made (s ∷ short)))) ≡ (s - made) + needed (needs_after (max made s) short) (best_after setup hold 1 (needs_after (max made s) short)) =
     ap (λ wants. first_order (best setup hold wants)) (needs_zero made (s ∷ short)) ∙ first_is setup hold (s - made) (needs_after (max made s) short) (omega arith) in
@@ -62,7 +62,7 @@ GoesOn setup hold short =
 
 ordered_day : (setup hold made s n : ℕ) (short : List ℕ) → GoesOn setup hold short → s - made ≡ suc n
     → anew setup hold made (s ∷ short)
-      ≡ (suc n + needed (needs_after (max made s) short) (best_after setup hold 1 (needs_after (max made s) short))) ∷ best_after setup hold 1 (needs_after (max made s) short)
+    ≡ (suc n + needed (needs_after (max made s) short) (best_after setup hold 1 (needs_after (max made s) short))) ∷ best_after setup hold 1 (needs_after (max made s) short)
 ordered_day setup hold made s n short on is =
     subst (λ k. anew setup hold made (s ∷ short) ≡ (k + needed (needs_after (max made s) short) (best_after setup hold 1 (needs_after (max made s) short))) ∷ best_after setup hold 1 (needs_after (max made s) short)) is
     (an_order setup hold made s short (omega arith) (on 1 _ (max made s) (omega arith)))

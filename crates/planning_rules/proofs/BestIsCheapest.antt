@@ -1,10 +1,9 @@
 -- The best list is simple, it costs the least, and it stands before every other simple list of that cost.
-use Rattle.std.proofs.Common.{◌≡◌, ℕ, zero, suc, ◌+◌, ◌-◌, ◌*◌, ◌<◌, ◌≤◌, inl, inr, List, [], ◌∷◌, min, max, refl, sym, ◌∙◌, ap, subst, arith, le_refl, true, false}
-use Rattle.std.specs.Prelude.{nat_le, if◌then◌else◌}
+use Rattle.std.proofs.Common.{◌≡◌, ℕ, zero, suc, ◌+◌, ◌*◌, ◌<◌, ◌≤◌, inl, inr, List, [], ◌∷◌, refl, sym, ◌∙◌, ap, subst, arith, true, false}
+use Rattle.std.specs.Prelude.{nat_le}
 use Rattle.std.proofs.lemmas.Bool.{cases_lt}
 use Rattle.std.proofs.lemmas.Bool.Decides.{nat_tests}
-use Rattle.planning_rules.specs.BestLots.{needs_after, needs, IsCoveredAfter, IsCovered, setup_of, cost_after, cost, needed, IsJust, IsSimple, IsCheapest, least_after, least_cost, best_after, best, first_order, IsNotAbove, IsBest}
-use Rattle.planning_rules.proofs.LeastCost.{enough_costs}
+use Rattle.planning_rules.specs.BestLots.{needed, IsJust, least_after, best_after, IsNotAbove}
 
 -- an order above 0 ---------------------------------------------------------------------------------------------------------------------
 
@@ -125,7 +124,9 @@ best_after_first setup hold since (suc n ∷ wants) (suc q ∷ orders) h low =
       | inl less ↦ absurd (omega arith)
       | inr no_less ↦
           rw (best_orders setup hold since n wants no_less)
-          (inr (needed_ordered (suc n) (suc n + needed wants (best_after setup hold 1 wants)) wants (best_after setup hold 1 wants) (omega arith),
-          subst (λ k. IsNotAbove ((suc n + needed wants (best_after setup hold 1 wants)) ∷ best_after setup hold 1 wants) (k ∷ orders)) (sym h.1)
-          (more_alike (suc n) _ _ _ _ (best_after_first setup hold 1 wants orders h.2 (omega arith)))))
+          (inr (
+            needed_ordered (suc n) (suc n + needed wants (best_after setup hold 1 wants)) wants (best_after setup hold 1 wants) (omega arith),
+            subst (λ k. IsNotAbove ((suc n + needed wants (best_after setup hold 1 wants)) ∷ best_after setup hold 1 wants) (k ∷ orders)) (sym h.1)
+                (more_alike (suc n) _ _ _ _ (best_after_first setup hold 1 wants orders h.2 (omega arith))),
+          ))
     ]

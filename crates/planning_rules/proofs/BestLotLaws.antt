@@ -1,9 +1,9 @@
 -- The best list of what is short: it is enough, costs the least of all lists that are enough, and is the one best list.
-use Rattle.std.proofs.Common.{◌≡◌, ℕ, zero, suc, ◌+◌, ◌-◌, ◌*◌, ◌<◌, ◌≤◌, inl, inr, List, [], ◌∷◌, min, max, refl, sym, ◌∙◌, ap, subst, arith, le_refl, true, false}
+use Rattle.std.proofs.Common.{◌≡◌, ℕ, zero, suc, ◌+◌, ◌-◌, ◌*◌, ◌<◌, ◌≤◌, inl, inr, List, [], ◌∷◌, max, refl, sym, ◌∙◌, subst, arith}
 use Rattle.planning_rules.specs.Amounts.{IsLeast}
-use Rattle.planning_rules.specs.BestLots.{needs_after, needs, IsCoveredAfter, IsCovered, setup_of, cost_after, cost, needed, IsJust, IsSimple, IsCheapest, least_after, least_cost, best_after, best, first_order, IsNotAbove, IsBest}
+use Rattle.planning_rules.specs.BestLots.{needs_after, needs, IsCoveredAfter, IsCovered, cost_after, cost, needed, IsJust, IsSimple, IsCheapest, least_cost, best_after, best, first_order, IsNotAbove, IsBest}
 use Rattle.planning_rules.proofs.LeastCost.{enough_costs}
-use Rattle.planning_rules.proofs.BestIsCheapest.{just_ordered, needed_ordered, waiting_cost, cost_waits, cost_orders, cost_ends, best_after_just, best_after_costs, just_costs, best_after_first, more_alike}
+use Rattle.planning_rules.proofs.BestIsCheapest.{just_ordered, needed_ordered, waiting_cost, cost_waits, cost_orders, cost_ends, best_after_just, best_after_costs, best_after_first, more_alike}
 
 -- cost by days is cost by waiting: what lies ahead is what is needed before the next order
 pub waiting_is_cost : (setup hold since made most : ℕ) (short orders : List ℕ) → IsJust (needs_after most short) orders → made ≡ most + needed (needs_after most short) orders
@@ -30,6 +30,7 @@ waiting_is_cost setup hold since made most (s ∷ short) (suc q ∷ orders) h e 
   where
     ordered_plain : (made q most s a : ℕ) → made ≡ most + 0 → q ≡ (s - most) + a → made + q ≡ max most s + a
     ordered_plain made q most s a e h = omega arith
+
     orders_plain : (setup hold since a left rest_cost rest_waiting waiting : ℕ) → left ≡ a → hold * (1 * a) + rest_cost ≡ rest_waiting → waiting ≡ setup + rest_waiting
         → hold * (since * 0) + ((setup + hold * left) + rest_cost) ≡ waiting
     orders_plain setup hold since a left rest_cost rest_waiting waiting e r h = rw e (omega arith)
@@ -59,9 +60,10 @@ simple_costs setup hold since short orders h =
 pub best_is_simple : (setup hold : ℕ) (wants : List ℕ) → IsSimple wants (best setup hold wants)
 best_is_simple setup hold [] = (refl, tt)
 best_is_simple setup hold (zero ∷ wants) = let rest = best_is_simple setup hold wants in (omega (arith, rest.0), rest.1)
-best_is_simple setup hold (suc n ∷ wants) =
-    (needed_ordered (suc n) (suc n + needed wants (best_after setup hold 1 wants)) wants (best_after setup hold 1 wants) (omega arith),
-    just_ordered (suc n) (suc n + needed wants (best_after setup hold 1 wants)) wants (best_after setup hold 1 wants) (omega arith) refl (best_after_just setup hold 1 wants))
+best_is_simple setup hold (suc n ∷ wants) = (
+  needed_ordered (suc n) (suc n + needed wants (best_after setup hold 1 wants)) wants (best_after setup hold 1 wants) (omega arith),
+  just_ordered (suc n) (suc n + needed wants (best_after setup hold 1 wants)) wants (best_after setup hold 1 wants) (omega arith) refl (best_after_just setup hold 1 wants),
+)
 
 best_waiting : (setup hold since : ℕ) (wants : List ℕ) → waiting_cost setup hold since wants (best setup hold wants) ≡ least_cost setup hold wants
 best_waiting setup hold since [] = cost_ends setup hold since []
@@ -98,12 +100,13 @@ best_first setup hold since (suc n ∷ wants) (suc q ∷ orders) h low =
     (more_alike (suc n) _ _ _ _ (best_after_first setup hold 1 wants orders h.1.2 (omega arith)))
 
 pub best_is_best : (setup hold : ℕ) (short : List ℕ) → IsBest setup hold short (best setup hold (needs short))
-best_is_best setup hold short =
-    (best_is_cheapest setup hold short,
-    λ other h. best_first setup hold 0 (needs short) other h.0 (let low = h.1 (best setup hold (needs short)) (best_is_simple setup hold (needs short)) in
-    let is = best_costs setup hold short in
-    let also = simple_costs setup hold 0 short other h.0 in
-    omega arith))
+best_is_best setup hold short = (
+  best_is_cheapest setup hold short,
+  λ other h. best_first setup hold 0 (needs short) other h.0 (let low = h.1 (best setup hold (needs short)) (best_is_simple setup hold (needs short)) in
+      let is = best_costs setup hold short in
+      let also = simple_costs setup hold 0 short other h.0 in
+      omega arith),
+)
 
 -- two lists that stand before each other are the same
 not_above_both : (xs ys : List ℕ) → IsNotAbove xs ys → IsNotAbove ys xs → xs ≡ ys
@@ -138,9 +141,10 @@ first_alone setup hold s short = begins (s - 0) (needs_after (max 0 s) short)
 pub first_is_least : (setup hold s : ℕ) (short : List ℕ) → IsLeast (λ a. (rest : List ℕ) × IsCheapest setup hold (s ∷ short) (a ∷ rest)) (first_order (best setup hold (needs (s ∷ short))))
 first_is_least setup hold s short =
     let it = best_is_best setup hold (s ∷ short) in
-    let whole = first_alone setup hold s short in
-    ((whole.0, subst (λ orders. IsCheapest setup hold (s ∷ short) orders) whole.1 it.0),
-    λ b h. first_is_low (best setup hold (needs (s ∷ short))) b h.0 (it.1 (b ∷ h.0) h.1))
+    let whole = first_alone setup hold s short in (
+      (whole.0, subst (λ orders. IsCheapest setup hold (s ∷ short) orders) whole.1 it.0),
+      λ b h. first_is_low (best setup hold (needs (s ∷ short))) b h.0 (it.1 (b ∷ h.0) h.1),
+    )
 
 -- the first order of a simple list covers what the first day is short of
 pub first_enough : (setup hold s a : ℕ) (short : List ℕ) → IsLeast (λ b. (rest : List ℕ) × IsCheapest setup hold (s ∷ short) (b ∷ rest)) a → s ≤ a

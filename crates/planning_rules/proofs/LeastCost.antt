@@ -1,9 +1,9 @@
 -- Every list of orders that is enough costs at least the least cost.
-use Rattle.std.proofs.Common.{◌≡◌, ℕ, zero, suc, ◌+◌, ◌-◌, ◌*◌, ◌<◌, ◌≤◌, inl, inr, List, [], ◌∷◌, min, max, refl, sym, ◌∙◌, ap, subst, arith, le_refl, true, false}
+use Rattle.std.proofs.Common.{◌≡◌, ℕ, zero, suc, ◌+◌, ◌-◌, ◌*◌, ◌<◌, ◌≤◌, inl, inr, List, [], ◌∷◌, max, refl, sym, ◌∙◌, subst, arith, le_refl, true, false}
 use Rattle.std.specs.Prelude.{nat_le, if◌then◌else◌}
 use Rattle.std.proofs.lemmas.Bool.{cases_lt}
 use Rattle.std.proofs.lemmas.Bool.Decides.{nat_tests}
-use Rattle.planning_rules.specs.BestLots.{needs_after, needs, IsCoveredAfter, IsCovered, setup_of, cost_after, cost, needed, IsJust, IsSimple, least_after, least_cost, best_after, best}
+use Rattle.planning_rules.specs.BestLots.{needs_after, needs, IsCoveredAfter, IsCovered, setup_of, cost_after, cost, least_after, least_cost}
 
 -- one who ordered longer ago pays no less
 pub least_more : (setup hold since : ℕ) (wants : List ℕ) → least_after setup hold since wants ≤ least_after setup hold (suc since) wants

@@ -3,7 +3,6 @@ use Rattle.std.proofs.Common.{◌≡◌, ℕ, zero, suc, ◌+◌, ◌-◌, ◌*�
 use Rattle.std.specs.Prelude.{if◌then◌else◌}
 use Rattle.std.specs.List.{sum, range_with_len}
 use Rattle.std.proofs.lemmas.List.Sums.{sum_by_push}
-use Rattle.plan_schema.specs.declared.key.Lot.{Lot}
 use Rattle.plan_schema.specs.declared.key.Lot.TheVariants as lot
 use Rattle.planning_rules.specs.Amounts.{amount, IsAmount}
 use Rattle.planning_rules.specs.BestLots.{needs, best, first_order, IsCovered, IsCoveredAfter, cost, cost_after}
@@ -65,9 +64,11 @@ covered_from x orders long kept (suc n) t e =
     let none = kept t (omega arith) in
     let next = covered_from x orders long kept n (suc t) (omega arith) in
     let at_next : map (short_on x 0) (range_with_len (suc t) n) ≡ map (short_on x 0) (range_with_len (t + 1) n) = ap (λ a. map (short_on x 0) (range_with_len a n)) (sym (add-one t)) in
-    subst (λ qs. IsCoveredAfter (sum (take t orders)) (map (short_on x 0) (range_with_len t (suc n))) qs) (sym (drop-cons orders t 0 here))
-    (omega arith, subst (λ shorts. IsCoveredAfter (sum (take t orders) + get_or orders t 0) shorts (drop (suc t) orders)) at_next
-    (subst (λ made. IsCoveredAfter made (map (short_on x 0) (range_with_len (suc t) n)) (drop (suc t) orders)) more next))
+    subst (λ qs. IsCoveredAfter (sum (take t orders)) (map (short_on x 0) (range_with_len t (suc n))) qs) (sym (drop-cons orders t 0 here)) (
+      omega arith,
+      subst (λ shorts. IsCoveredAfter (sum (take t orders) + get_or orders t 0) shorts (drop (suc t) orders)) at_next
+          (subst (λ made. IsCoveredAfter made (map (short_on x 0) (range_with_len (suc t) n)) (drop (suc t) orders)) more next),
+    )
 
 pub safety_covers : (x : Input) (orders : List ℕ) → KeepsSafety x orders → IsCovered (shortages_of x) orders
 safety_covers x orders h = covered_from x orders h.0 h.1 (days x) 0 (let all : 0 + days x ≡ days x = omega arith in all)
@@ -125,6 +126,7 @@ best_order x setup hold t p rule h n =
     subst (λ orders. IsOrder x (sum p) t (get_or orders t 0)) (planned_is_best x setup hold rule) (subst (λ q. IsOrder x (sum q) t (get_or (planned_of x) t 0)) so_far (netted.each t h))
 
 pub amount_is_first : AmountIsFirst
-amount_is_first setup hold s a short =
-    (λ h. least_unique a (first_order (best setup hold (needs (s ∷ short)))) h (first_is_least setup hold s short),
-    λ e. subst (IsAmount (lot.Best setup hold) s short) (sym e) (first_is_least setup hold s short))
+amount_is_first setup hold s a short = (
+  λ h. least_unique a (first_order (best setup hold (needs (s ∷ short)))) h (first_is_least setup hold s short),
+  λ e. subst (IsAmount (lot.Best setup hold) s short) (sym e) (first_is_least setup hold s short),
+)

@@ -1,11 +1,9 @@
 -- Worked examples of least-cost lots, by computation.
-use Rattle.std.specs.Prelude.{◌≡◌, ℕ, List, [], ◌∷◌, true, Option, Some, None, codes}
+use Rattle.std.specs.Prelude.{◌≡◌, ℕ, List, [], ◌∷◌, Some, None, codes}
 use Rattle.std.proofs.Common.{refl}
 use Rattle.plan_schema.specs.declared.name.Name.{Name}
-use Rattle.plan_schema.specs.declared.key.Key.{Key}
 use Rattle.plan_schema.specs.declared.key.Key.TheVariants as keys
 use Rattle.plan_schema.specs.declared.key.Lot.TheVariants as lots
-use Rattle.plan_schema.specs.declared.key.Record.{Record}
 use Rattle.plan_schema.specs.declared.key.Record.TheVariants as records
 use Rattle.plan_schema.specs.Contents.{Contents}
 use Rattle.planning_rules.specs.BestLots.{needs, cost, least_cost, best}

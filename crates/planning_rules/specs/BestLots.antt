@@ -81,7 +81,7 @@ best_after setup hold since [] = []
 best_after setup hold since (zero ∷ wants) = 0 ∷ best_after setup hold (suc since) wants
 best_after setup hold since (suc n ∷ wants) =
     if nat_le (setup + least_after setup hold 1 wants) (hold * (suc n * since) + least_after setup hold (suc since) wants) then
-      (suc n + needed wants (best_after setup hold 1 wants)) ∷ best_after setup hold 1 wants
+    (suc n + needed wants (best_after setup hold 1 wants)) ∷ best_after setup hold 1 wants
     else 0 ∷ best_after setup hold (suc since) wants
 
 -- the best orders for some needs

@@ -1,6 +1,6 @@
 -- Full pegging: for which independent demands the planned units of a part are meant. What there is of a part serves its demand in turn,
 -- unit by unit, and what a parent asks for is followed on through the parent's own planned units (the exact form is this product's own).
-use Rattle.std.specs.Prelude.{ℕ, zero, suc, ◌+◌, ◌/◌, List, [], ◌++◌, Bool, true, false, ◌&&◌, nat_lt, Option, Some, None, map, filter, count_by, sum, take, slice_index, slice_index_or}
+use Rattle.std.specs.Prelude.{ℕ, zero, suc, ◌+◌, ◌/◌, List, [], ◌++◌, Bool, false, ◌&&◌, nat_lt, Option, Some, None, map, filter, count_by, sum, take, slice_index, slice_index_or}
 use Rattle.std.specs.List.{range_with_len, flat_map, filter_map}
 use Rattle.plan_schema.specs.declared.name.Name.{Name}
 use Rattle.plan_schema.specs.declared.key.Key.{Key}

@@ -1,16 +1,13 @@
 -- Which parts are selected.
-use Rattle.std.proofs.Common.{◌≡◌, ℕ, ◌+◌, List, [], ◌∷◌, length, map, Bool, true, not, refl, ap, ◌∙◌}
-use Rattle.std.specs.Prelude.{All, filter, Option, Some, None}
+use Rattle.std.proofs.Common.{◌≡◌, ℕ, ◌+◌, List, [], ◌∷◌, length, map, true, refl, ap, ◌∙◌}
+use Rattle.std.specs.Prelude.{filter, Some}
 use Rattle.std.proofs.lemmas.List.{length-map}
 use Rattle.std.proofs.lemmas.List.Elements.{All-map}
 use Rattle.std.proofs.lemmas.List.Filters.{length-filter_both}
 use Rattle.plan_schema.specs.declared.name.Name.{Name}
-use Rattle.plan_schema.specs.Contents.{Contents}
-use Rattle.planning_rules.specs.Plan.{Known}
-use Rattle.query_language.specs.declared.column.Column.{Column}
-use Rattle.query_language.specs.Trees.{CondTree, Negation, QueryTree}
-use Rattle.query_rules.specs.Queries.{parts_of, column_value, is_selected, selected_from}
-use Rattle.query_rules.specs.Laws.{selects, AllAreSelected, EachHasItsValues, EitherOrNot}
+use Rattle.query_language.specs.Trees.{Negation}
+use Rattle.query_rules.specs.Queries.{parts_of, column_value, is_selected}
+use Rattle.query_rules.specs.Laws.{AllAreSelected, EachHasItsValues, EitherOrNot}
 
 all_pass : (values : Name → List ℕ) (names : List Name) → map (λ (row : Name × List ℕ). row.0) (map (λ n. (n, values n)) (filter (λ n. true) names)) ≡ names
 all_pass values [] = refl

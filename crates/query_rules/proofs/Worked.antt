@@ -1,5 +1,5 @@
 -- Worked examples, by computation.
-use Rattle.std.specs.Prelude.{◌≡◌, ℕ, List, [], ◌∷◌, true, false, Option, Some, None, codes}
+use Rattle.std.specs.Prelude.{◌≡◌, [], ◌∷◌, true, false, Some, None, codes}
 use Rattle.std.proofs.Common.{refl}
 use Rattle.plan_schema.specs.declared.name.Name.{Name}
 use Rattle.plan_schema.specs.declared.key.Key.TheVariants as keys
@@ -7,10 +7,9 @@ use Rattle.plan_schema.specs.declared.key.Lot.TheVariants as lots
 use Rattle.plan_schema.specs.declared.key.Record.TheVariants as records
 use Rattle.plan_schema.specs.declared.refusal.Refusal.TheVariants as refusals
 use Rattle.plan_schema.specs.Contents.{Contents}
-use Rattle.query_language.specs.declared.column.Column.{Column}
 use Rattle.query_language.specs.declared.column.Column.TheVariants as columns
 use Rattle.query_language.specs.declared.column.Op.TheVariants as ops
-use Rattle.query_language.specs.Trees.{CondTree, Compares, IsNamed, Negation, Both, Either, QueryTree}
+use Rattle.query_language.specs.Trees.{Compares, IsNamed, Negation, Both, Either, QueryTree}
 use Rattle.query_rules.specs.Queries.{selected, query_refusal}
 use Rattle.query_rules.specs.Laws.{selects}
 

@@ -1,5 +1,5 @@
 -- What holds of the meaning of queries.
-use Rattle.std.specs.Prelude.{◌≡◌, ℕ, ◌+◌, List, All, Option, Some, None, length, map}
+use Rattle.std.specs.Prelude.{◌≡◌, ◌+◌, List, All, Option, Some, None, length, map}
 use Rattle.plan_schema.specs.declared.name.Name.{Name}
 use Rattle.plan_schema.specs.Contents.{Contents}
 use Rattle.planning_rules.specs.Plan.{Known}

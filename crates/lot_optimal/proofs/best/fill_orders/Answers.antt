@@ -1,4 +1,4 @@
-use Rattle.std.proofs.Common.{◌≡◌, ◌≤◌, ◌-◌, length, take, drop, sym, ap, subst, arith}
+use Rattle.std.proofs.Common.{◌-◌, length, take, drop, sym, ap, subst, arith}
 use Rattle.std.specs.List.{sum}
 use Rattle.lot_optimal.specs.Potentials.{AreToldFrom}
 use Rattle.lot_optimal.proofs.Backward.{drop_sum}

@@ -1,4 +1,4 @@
-use Rattle.std.proofs.Common.{◌≡◌, map, true, sym, ◌∙◌}
+use Rattle.std.proofs.Common.{map, sym, ◌∙◌}
 use Rattle.planning_rules.specs.Shortages.{shortage}
 use Rattle.lot_optimal.proofs.CheckLaws.{check_is_least}
 use Rattle.lot_optimal.proofs.checking.check.Goals as goal

@@ -1,7 +1,5 @@
-use Rattle.std.proofs.Common.{◌≡◌, ◌≤◌, ◌<◌, ◌+◌, ◌-◌, ◌*◌, drop, get_or, arith, ◌∙◌}
-use Rattle.std.proofs.lemmas.Grind.{common_steps}
-use Rattle.lot_optimal.specs.Costs.{rows_cost}
-use Rattle.lot_optimal.proofs.RowLaws.{blank, waits_step, orders_step}
+use Rattle.std.proofs.Common.{arith}
+use Rattle.lot_optimal.proofs.RowLaws.{waits_step, orders_step}
 use Rattle.lot_optimal.proofs.checking.cost_of.Goals as goal
 use Rattle.lot_optimal.proofs.checking.cost_of.Goals.{then-row-eq0, else-row-eq0}
 

@@ -1,4 +1,4 @@
-use Rattle.std.proofs.Common.{◌≡◌, ◌≤◌, drop, length, sym, ◌∙◌, ap, arith}
+use Rattle.std.proofs.Common.{drop, sym, ◌∙◌, ap}
 use Rattle.std.proofs.lemmas.List.{drop_all}
 use Rattle.lot_optimal.specs.Costs.{are_rows}
 use Rattle.lot_optimal.proofs.RowLaws.{rows_end}

@@ -1,4 +1,4 @@
-use Rattle.std.proofs.Common.{◌≡◌, ◌≤◌, ◌<◌, ◌+◌, ◌-◌, drop, length, get_or, sym, ◌∙◌, ap, subst, arith}
+use Rattle.std.proofs.Common.{◌≡◌, ◌+◌, ◌-◌, drop, get_or, sym, ◌∙◌, ap, arith}
 use Rattle.lot_optimal.specs.Costs.{before_order}
 use Rattle.lot_optimal.proofs.RowLaws.{blank, before_more, wrong_here}
 use Rattle.lot_optimal.proofs.checking.have_amounts.Goals as goal

@@ -1,10 +1,7 @@
-use Rattle.std.proofs.Common.{◌≡◌, ◌≤◌, ◌≢◌, ◌<◌, length, map, true, sym, ◌∙◌, ap, subst, arith}
-use Rattle.std.specs.Prelude.{sum_by}
+use Rattle.std.proofs.Common.{◌≡◌, length, map, sym, ◌∙◌, ap, arith}
 use Rattle.std.specs.List.{sum}
 use Rattle.std.proofs.lemmas.List.{length-map}
 use Rattle.planning_rules.specs.Shortages.{shortage}
-use Rattle.planning_rules.specs.BestLots.{needs}
-use Rattle.lot_optimal.specs.Costs.{are_rows, are_amounts, begins, rows_cost, first_potential}
 use Rattle.lot_optimal.proofs.Filled.{length_needs, needs_small}
 use Rattle.lot_optimal.proofs.SpreadLaws.{rows_sum, rows_few}
 use Rattle.lot_optimal.proofs.ProofIs.{proof_is, not_the_cost}

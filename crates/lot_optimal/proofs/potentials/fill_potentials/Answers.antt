@@ -1,9 +1,8 @@
-use Rattle.std.proofs.Common.{◌≡◌, ◌≤◌, ◌<◌, ◌-◌, suc, length, take, drop, slice_index_or, sym, ◌∙◌, ap, subst, arith, length-set}
+use Rattle.std.proofs.Common.{◌≡◌, ◌-◌, suc, length, take, drop, sym, ap, subst, arith}
 use Rattle.std.specs.List.{sum}
-use Rattle.planning_rules.specs.BestLots.{least_cost}
 use Rattle.lot_optimal.specs.Potentials.{AreToldFrom}
 use Rattle.lot_optimal.proofs.Backward.{drop_sum}
-use Rattle.lot_optimal.proofs.Filled.{told_more, told_same, told_shifted, rest_is}
+use Rattle.lot_optimal.proofs.Filled.{told_shifted, rest_is}
 use Rattle.lot_optimal.proofs.potentials.fill_potentials.Goals as goal
 
 pub first_of-requires-clause-total : goal.first_of-requires-clause-total

@@ -1,5 +1,4 @@
-use Rattle.std.proofs.Common.{◌≡◌, ◌≤◌, ◌<◌, ◌+◌, ◌-◌, ◌*◌, ℕ, suc, length, subst, sym, arith, slice_index_or, drop, ap, ◌∙◌}
-use Rattle.planning_rules.specs.BestLots.{least_cost}
+use Rattle.std.proofs.Common.{◌≡◌, ◌-◌, suc, subst, arith, slice_index_or, ◌∙◌}
 use Rattle.lot_optimal.proofs.Backward.{IsTold, told_back, told_cost, told_amount, first_cost, first_amount_is}
 use Rattle.lot_optimal.proofs.potentials.first_of.Goals as goal
 
@@ -19,11 +18,11 @@ loop-day-preserved c =
     let next : c.loop-day.day ≡ suc (c.loop-day.day - 1) = omega arith in
     let told = subst (λ day. IsTold c.args.setup c.args.hold c.args.wants.now day c.loop-day.first.cost c.loop-day.first.amount) next c.loop-day.invariant.told in
     let back = told_back c.args.setup c.args.hold c.args.wants.now (c.loop-day.day - 1) (slice_index_or c.args.potentials.now (c.loop-day.day - 1) 0) c.loop-day.first.cost c.loop-day.first.amount
-        (omega arith) (c.requires.told (c.loop-day.day - 1) (omega arith) (omega arith)) told in
+    (omega arith) (c.requires.told (c.loop-day.day - 1) (omega arith) (omega arith)) told in
     record {
       some = omega arith;
       within = omega arith;
-      told = record { cost_is = c.look_back-first.ensures.cost ∙ back.cost_is; amount_is = c.look_back-first.ensures.amount ∙ back.amount_is; };
+      told = record { cost_is = c.look_back-first.ensures.cost ∙ back.cost_is; amount_is = c.look_back-first.ensures.amount ∙ back.amount_is };
     }
 
 pub overflow_add-result : goal.overflow_add-result

@@ -1,4 +1,4 @@
-use Rattle.std.proofs.Common.{◌<◌, length, sum}
+use Rattle.std.proofs.Common.{length, sum}
 use Rattle.netting.specs.Inputs.{given}
 use Rattle.netting.proofs.NetLaws.{listed_order, order_told, shifted_order}
 use Rattle.netting.proofs.step.next_order.Goals as goal

@@ -1,19 +1,19 @@
-use Rattle.std.proofs.Common.{◌≡◌, ◌+◌, ◌-◌, ◌*◌, ◌<◌, ◌≤◌, ℕ, [], length, sum, ◌∷◌, ◌++◌, slice_index_or, arith, subst, sym, ap}
+use Rattle.std.proofs.Common.{◌≡◌, ◌+◌, ◌-◌, ◌*◌, ◌<◌, ◌≤◌, [], length, ◌∷◌, ◌++◌, slice_index_or, arith, subst, sym, ap}
 use Rattle.std.proofs.lemmas.List.Elements.{All-push}
 use Rattle.std.proofs.lemmas.Grind.{common_steps}
-use Rattle.planning_rules.specs.Netting.{limit, IsOrder}
+use Rattle.planning_rules.specs.Netting.{limit}
 use Rattle.lot_sizing.proofs.LotLaws.{sound_lot}
 use Rattle.netting.specs.Inputs.{given}
-use Rattle.netting.specs.Going.{Going}
-use Rattle.netting.proofs.Going.{going_on}
+use Rattle.netting.specs.DayByDay.{IsPlannedTo}
+use Rattle.netting.proofs.DayByDay.{going_on}
 use Rattle.netting.proofs.NetLaws.{Balanced, balanced_push, balanced_all, large_here, day_covers, order_here, next_balance}
 use Rattle.netting.proofs.step.plan_days.Goals as goal
 
 pub next_order-order-requires-clause-going : goal.next_order-order-requires-clause-going
 next_order-order-requires-clause-going c =
     let x = given c.args.input.now in
-    subst (λ p. Going x (length p) p c.loop-day.balance) (sym c.as_slice.ensures.value)
-    (subst (λ n. Going x n c.loop-day.planned.items c.loop-day.balance) (sym c.loop-day.invariant.going.orders.whole) c.loop-day.invariant.going)
+    subst (λ p. IsPlannedTo x (length p) p c.loop-day.balance) (sym c.as_slice.ensures.value)
+    (subst (λ n. IsPlannedTo x n c.loop-day.planned.items c.loop-day.balance) (sym c.loop-day.invariant.going.orders.whole) c.loop-day.invariant.going)
 
 pub returns-then-order-gt-LIMIT-clause-large : goal.returns-then-order-gt-LIMIT-clause-large
 returns-then-order-gt-LIMIT-clause-large c =

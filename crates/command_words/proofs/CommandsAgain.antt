@@ -7,7 +7,7 @@ use Rattle.std.proofs.lemmas.Bool.Decides.{nat_tests}
 use Rattle.plan_schema.specs.declared.key.Key.{Key}
 use Rattle.plan_schema.specs.declared.key.Key.TheVariants as keys
 use Rattle.plan_schema.specs.declared.key.Lot.{Lot}
-use Rattle.plan_schema.specs.declared.key.Lot.TheVariants.{Exact, Fixed, Least, Period}
+use Rattle.plan_schema.specs.declared.key.Lot.TheVariants.{Exact, Fixed, Least, Period, Best}
 use Rattle.plan_schema.specs.declared.key.Span.{Span}
 use Rattle.plan_schema.specs.declared.key.Record.{Record}
 use Rattle.plan_schema.specs.declared.key.Record.TheVariants as records
@@ -67,6 +67,10 @@ lot_seen (Least least step) h =
 lot_seen (Period days) h =
     let p = and_parts (nat_le 1 days) (nat_le days 400) h in
     seen_behind (codes "POQ:") (decimal days) refl (bytes_seen (decimal days) (up_to_seen days 400 (omega arith) p.1))
+lot_seen (Best setup hold) h =
+    let p = and_parts (is_quantity setup) (nat_le hold 1_000_000) h in
+    seen_behind (codes "WW:" ++ decimal setup) (58 ∷ decimal hold) (seen_behind (codes "WW:") (decimal setup) refl (bytes_seen (decimal setup) (quantity_seen setup p.0)))
+    (and_true refl (bytes_seen (decimal hold) (up_to_seen hold 1_000_000 (omega arith) p.1)))
 
 mark_seen : (works : Bool) → is_seen (mark works) ≡ true
 mark_seen true = refl

@@ -11,7 +11,7 @@ use Rattle.plan_schema.specs.Sound.{is_sound_lot, is_quantity}
 use Rattle.planning_rules.specs.Amounts.{IsAmount, amount, greatest}
 use Rattle.planning_rules.specs.Netting.{HasStep}
 use Rattle.planning_rules.proofs.NettedLaws.{amount_is}
-use Rattle.lot_sizing.specs.Shortages.{shortage, IsAmountFor}
+use Rattle.planning_rules.specs.Shortages.{shortage, IsAmountFor}
 
 -- what the soundness of a lot says of its numbers
 abbrev pub IsSoundLot : Lot → Type 0
@@ -19,6 +19,7 @@ IsSoundLot lot.Exact = Unit {0}
 IsSoundLot (lot.Fixed q) = (1 ≤ q) × (q ≤ 1000000000)
 IsSoundLot (lot.Least least step) = (least ≤ 1000000000) × (1 ≤ step) × (step ≤ 1000000000)
 IsSoundLot (lot.Period p) = (1 ≤ p) × (p ≤ 400)
+IsSoundLot (lot.Best setup hold) = (setup ≤ 1000000000) × (hold ≤ 1000000)
 
 pub sound_lot : (rule : Lot) → is_sound_lot rule ≡ true → IsSoundLot rule
 sound_lot lot.Exact h = tt
@@ -27,12 +28,14 @@ sound_lot (lot.Least least step) h =
     let p = and_parts (is_quantity least && nat_le 1 step) (is_quantity step) h in
     (grind (arith, nat_tests), grind (arith, nat_tests), grind (arith, nat_tests))
 sound_lot (lot.Period p) h = (grind (arith, nat_tests), grind (arith, nat_tests))
+sound_lot (lot.Best setup hold) h = (grind (arith, nat_tests), grind (arith, nat_tests))
 
 pub has_step : (rule : Lot) → IsSoundLot rule → HasStep rule
 has_step lot.Exact h = tt
 has_step (lot.Fixed q) h = h.0
 has_step (lot.Least least more) h = h.1
 has_step (lot.Period p) h = h.0
+has_step (lot.Best setup hold) h = tt
 
 -- what equals the computed amount is the amount
 pub lot_meets : (rule : Lot) (short : List ℤ) (result : ℕ) → IsSoundLot rule → result ≡ amount rule (shortage (get_or short 0 (pos 0))) (map shortage (drop 1 short)) → IsAmountFor rule short result

@@ -1,24 +1,23 @@
 //! Lot sizing: how much a lot rule orders on a day that falls short.
 #![tactic(auto)]
 
-ghost use Rattle.std.specs.Prelude.{◌≡◌, ◌≤◌, ◌≤ℤ◌, true, pos, length, All, map, slice_index_or};
-ghost use Rattle.planning_rules.specs.Amounts.{rounded_up, greatest};
+ghost use Rattle.std.specs.Prelude.{false, ◌≡◌, ◌≤◌, ◌≤ℤ◌, true, pos, length, All, map, slice_index_or};
+ghost use Rattle.planning_rules.specs.Amounts.{rounded_up, greatest, is_best};
 ghost use Rattle.plan_schema.specs.Sound.{is_sound_lot};
-ghost use Rattle.lot_sizing.specs.Shortages.{shortage, IsAmountFor, InReach};
-
-#[cfg(test)]
-mod tests;
+ghost use Rattle.planning_rules.specs.Shortages.{shortage, IsAmountFor, InReach};
 
 use plan_schema::{Lot, Qty};
 
 /// The amount that a lot rule orders on a day, by how much the day and the days after it fall short if nothing is planned:
-/// the safety stock minus the balance, so below 0 where there is more than enough.
+/// the safety stock minus the balance, so below 0 where there is more than enough. A least-cost lot is no matter of one day: its whole
+/// list is made by `lot_optimal`.
 #[tactic(auto, using(crate::proofs::LotLaws::sound_lot))]
 pub fn lot(rule: &Lot, short: &[i64]) -> Qty
     requires some { 1 ≤ length short.now }
     requires first { pos 1 ≤ℤ slice_index_or short.now 0 (pos 0) }
     requires reach { All InReach short.now }
     requires rule { is_sound_lot rule.now ≡ true }
+    requires kind { is_best rule.now ≡ false }
     ensures { IsAmountFor rule.now short.now result }
 {
     let first = shortage_of(&short[0]);
@@ -34,6 +33,7 @@ pub fn lot(rule: &Lot, short: &[i64]) -> Qty
                 greatest_of(short)
             }
         }
+        Lot::Best { .. } => unreachable!(),
     }
 }
 

@@ -1,6 +1,5 @@
-pub mod Going
+pub mod DayByDay
 pub mod NetLaws
 pub mod Passed
 pub mod Released
 pub mod Windows
-pub mod Within

@@ -2,7 +2,7 @@
 use Rattle.std.proofs.Common.{◌≡◌, ℕ, suc, zero, ◌+◌, ◌-◌, ◌<◌, ◌≤◌, inl, inr, List, [], ◌∷◌, ◌++◌, length, take, drop, get_or, map, max, refl, sym, ◌∙◌, ap, subst, arith, add-one, ltb, below_more, eq-zero-or-pos, le_refl, Bool, true, false, ◌||◌}
 use Rattle.std.specs.Prelude.{ℤ, pos, All}
 use Rattle.std.specs.List.{sum, range_with_len}
-use Rattle.std.proofs.lemmas.List.{get_or-map, length-map, length-drop, get_or-drop}
+use Rattle.std.proofs.lemmas.List.{get_or-map, length-map, length-drop}
 use Rattle.std.proofs.lemmas.List.FromFn.{fill_by_all}
 use Rattle.std.proofs.lemmas.List.Sums.{sum_by-append}
 use Rattle.std.proofs.Math.Seq.{take-add}
@@ -14,12 +14,15 @@ use Rattle.std.proofs.Math.Seq.{get_or-append_seam}
 use Rattle.plan_schema.specs.declared.key.Lot.TheVariants as lot
 use Rattle.lot_sizing.proofs.LotLaws.{IsSoundLot}
 use Rattle.planning_rules.specs.Netting.{Netted, balance_on, balances, exceeds, limit, there, releases, is_too_large}
-use Rattle.planning_rules.proofs.NettedLaws.{prefix_same, order_unique, netted_unique}
-use Rattle.netting.proofs.Going.{Going, going_on}
+use Rattle.planning_rules.proofs.NettedLaws.{short_is, prefix_same, order_unique, netted_unique}
+use Rattle.netting.specs.DayByDay.{IsPlannedTo, AreBest, begun}
+use Rattle.planning_rules.proofs.PlannedBest.{best_order}
 use Rattle.planning_rules.specs.Amounts.{IsAmount}
-use Rattle.planning_rules.specs.Netting.{Input, IsOrder, short_on, later, days}
-use Rattle.lot_sizing.specs.Shortages.{shortage, IsAmountFor}
+use Rattle.planning_rules.proofs.BestLotLaws.{first_enough}
+use Rattle.planning_rules.specs.Netting.{Input, IsOrder, NettedTo, short_on, later, days}
+use Rattle.planning_rules.specs.Shortages.{shortage, IsAmountFor}
 use Rattle.netting.specs.Shortages.{shortages}
+use Rattle.lot_optimal.proofs.Filled.{rest_is}
 
 to_suc : (s b k : ℕ) (gross sched : List ℕ) → (s + sum (take (k + 1) gross)) - (b + sum (take (k + 1) sched)) ≡ (s + sum (take (suc k) gross)) - ((b + sum (take (suc k) sched)) + 0)
 to_suc s b k gross sched =
@@ -32,10 +35,6 @@ pub shortages_all : (short : List ℤ) (b s : ℕ) (gross sched : List ℕ) → 
 shortages_all short b s gross sched same each =
     fill_by_all (λ k. (s + sum (take (suc k) gross)) - ((b + sum (take (suc k) sched)) + 0)) (map shortage short) (length gross) 0 (length-map short shortage ∙ same)
     (λ k h. get_or-map shortage short k (pos 0) 0 (let l : k < length short = omega (arith, same) in l) ∙ each k h ∙ to_suc s b k gross sched)
-
--- the input that begins at a day, with the balance before it as its stock
-abbrev pub begun : Lot → ℕ → ℕ → List ℕ → List ℕ → Input
-begun rule balance safety gross sched = record { stock = balance; safety = safety; lot = rule; lead = 0; calendar = []; gross = gross; sched = sched }
 
 -- the first order of such an input, by the amount for its shortages
 pub first_order : (rule : Lot) (balance safety a : ℕ) (gross sched : List ℕ) (short : List ℤ) → 1 ≤ length gross → 1 ≤ length short → map shortage short ≡ shortages balance safety gross sched
@@ -109,23 +108,15 @@ amount_covers (lot.Fixed q) short a after h m = m.0.0
 amount_covers (lot.Least least more) short a after h m = let le : max short least ≤ a = m.0.0 in omega arith
 amount_covers (lot.Period zero) short a after h m = let no : 1 ≤ 0 = h.0 in absurd (omega arith)
 amount_covers (lot.Period (suc p)) short a after h m = m.0.0
+amount_covers (lot.Best setup hold) short a after h m = first_enough setup hold short a after m
 
 pub order_covers : (x : Input) (made t a : ℕ) → IsSoundLot x.lot → IsOrder x made t a → short_on x made t ≤ a
 order_covers x made t a h o =
     elim (eq-zero-or-pos (short_on x made t)) [ inl e ↦ omega arith | inr more ↦ amount_covers x.lot (short_on x made t) a (later x made t) h (o.short more) ]
 
-pub first_covers : (rule : Lot) (balance safety a : ℕ) (gross sched : List ℕ) → 1 ≤ length gross → 1 ≤ length sched → IsSoundLot rule → IsOrder (begun rule balance safety gross sched) 0 0 a
-    → safety + get_or gross 0 0 ≤ (balance + get_or sched 0 0) + a
-first_covers rule balance safety a [] sched one also h o = absurd (omega arith)
-first_covers rule balance safety a (g ∷ gs) [] one also h o = absurd (omega arith)
-first_covers rule balance safety a (g ∷ gs) (s ∷ ss) one also h o =
-    let covers : (safety + (0 + g)) - ((balance + (0 + s)) + 0) ≤ a = order_covers (begun rule balance safety (g ∷ gs) (s ∷ ss)) 0 0 a h o in
-    let all : safety + g ≤ (balance + s) + a = omega arith in all
-
--- one more day: orders, balances, and what is too large
-pub one_more_day : (x : Input) (t : ℕ) (p : List ℕ) (balance order next : ℕ) → Going x t p balance → t < length x.gross → t < length x.sched
-    → IsOrder (begun x.lot balance x.safety (drop t x.gross) (drop t x.sched)) 0 0 order → next + get_or x.gross t 0 ≡ (balance + get_or x.sched t 0) + order → Going x (t + 1) (p ++ order ∷ []) next
-one_more_day x t p balance order next g hg hs o e = going_on x t p balance order next g hg hs (shifted_order x (sum p) t balance order g.balanced o) e
+pub day_covers : (x : Input) (t balance a : ℕ) (p : List ℕ) → IsSoundLot x.lot → IsPlannedTo x t p balance → t < length x.gross → t < length x.sched → IsOrder x (sum p) t a
+    → x.safety + get_or x.gross t 0 ≤ (balance + get_or x.sched t 0) + a
+day_covers x t balance a p h g hg hs o = omega (arith, order_covers x (sum p) t a h o, short_is x (sum p) t balance hg hs g.balanced)
 
 -- the balances of the first t days
 pub record Balanced (x : Input) (t : ℕ) (p bs : List ℕ) : Type 0 where
@@ -140,14 +131,14 @@ balance_kept x p a k h =
 balance_plain : (stock b g s made : ℕ) → b + g ≡ (stock + s) + made → ((stock + s) + made) - g ≡ b
 balance_plain stock b g s made e = omega arith
 
-balance_here : (x : Input) (t : ℕ) (p : List ℕ) (b : ℕ) → Going x (t + 1) p b → balance_on x p t ≡ b
+balance_here : (x : Input) (t : ℕ) (p : List ℕ) (b : ℕ) → IsPlannedTo x (t + 1) p b → balance_on x p t ≡ b
 balance_here x t p b g =
     let all : take (suc t) p ≡ p = take_all (suc t) p (omega (arith, g.orders.whole)) in
     ap (λ q. there x (sum q) t - sum (take (suc t) x.gross)) all
     ∙ balance_plain x.stock b (sum (take (suc t) x.gross)) (sum (take (suc t) x.sched)) (sum p)
     (subst (λ n. b + sum (take n x.gross) ≡ (x.stock + sum (take n x.sched)) + sum p) (add-one t) g.balanced)
 
-pub balanced_push : (x : Input) (t : ℕ) (p bs : List ℕ) (a b : ℕ) → length p ≡ t → Balanced x t p bs → Going x (t + 1) (p ++ a ∷ []) b → Balanced x (t + 1) (p ++ a ∷ []) (bs ++ b ∷ [])
+pub balanced_push : (x : Input) (t : ℕ) (p bs : List ℕ) (a b : ℕ) → length p ≡ t → Balanced x t p bs → IsPlannedTo x (t + 1) (p ++ a ∷ []) b → Balanced x (t + 1) (p ++ a ∷ []) (bs ++ b ∷ [])
 balanced_push x t p bs a b len kept g = record {
   whole = length-append bs (b ∷ []) ∙ (let e : length bs + 1 ≡ t + 1 = omega (arith, kept.whole) in e);
   each = below_more (λ k. get_or (bs ++ b ∷ []) k 0 ≡ balance_on x (p ++ a ∷ []) k) t
@@ -159,20 +150,15 @@ pub balanced_all : (x : Input) (p bs : List ℕ) → Balanced x (days x) p bs �
 balanced_all x p bs kept = fill_by_all (balance_on x p) bs (days x) 0 kept.whole kept.each
 
 -- an order above the limit makes each netted list too large
-pub large_here : (x : Input) (t : ℕ) (p : List ℕ) (balance a : ℕ) → Going x t p balance → t < days x
-    → IsOrder (begun x.lot balance x.safety (drop t x.gross) (drop t x.sched)) 0 0 a → limit < a → (q : List ℕ) → Netted x q → exceeds q ≡ true
-large_here x t p balance a g ht o large q n =
-    let same : take t p ≡ take t q = prefix_same x t (days x) p q g.orders n t (le_refl _) (omega arith) in
-    let whole : take t p ≡ p = take_all t p (omega (arith, g.orders.whole)) in
+pub large_here : (x : Input) (t : ℕ) (p : List ℕ) (a : ℕ) → NettedTo x t p → t < days x → IsOrder x (sum p) t a → limit < a → (q : List ℕ) → Netted x q → exceeds q ≡ true
+large_here x t p a g ht o large q n =
+    let same : take t p ≡ take t q = prefix_same x t (days x) p q g n t (le_refl _) (omega arith) in
+    let whole : take t p ≡ p = take_all t p (omega (arith, g.whole)) in
     let so_far : p ≡ take t q = sym whole ∙ same in
-    let mine : IsOrder x (sum (take t q)) t a = subst (λ r. IsOrder x (sum r) t a) so_far (shifted_order x (sum p) t balance a g.balanced o) in
+    let mine : IsOrder x (sum (take t q)) t a = subst (λ r. IsOrder x (sum r) t a) so_far o in
     let is : get_or q t 0 ≡ a = order_unique x (sum (take t q)) t _ _ (n.each t ht) mine in
     let within : t < length q = omega (arith, n.whole) in
     list_any_at (λ v. ltb limit v) q t 0 within (lt-ltb limit (get_or q t 0) (subst (λ v. limit < v) (sym is) large))
-
--- the days from t on, as a slice shows them
-rest_is : (xs : List ℕ) (t : ℕ) → take (length xs - t) (drop t xs) ≡ drop t xs
-rest_is xs t = take_all (length xs - t) (drop t xs) (omega (arith, length-drop t xs))
 
 pub order_told : (x : Input) (t balance a : ℕ) (gross sched : List ℕ) → gross ≡ x.gross → sched ≡ x.sched
     → IsOrder (begun x.lot balance x.safety (take (length gross - t) (drop t gross)) (take (length sched - t) (drop t sched))) 0 0 a
@@ -180,20 +166,6 @@ pub order_told : (x : Input) (t balance a : ℕ) (gross sched : List ℕ) → gr
 order_told x t balance a gross sched eg es o =
     subst (λ gs. IsOrder (begun x.lot balance x.safety gs (drop t x.sched)) 0 0 a) (rest_is gross t ∙ ap (drop t) eg)
     (subst (λ ss. IsOrder (begun x.lot balance x.safety (take (length gross - t) (drop t gross)) ss) 0 0 a) (rest_is sched t ∙ ap (drop t) es) o)
-
-first_of_rest : (xs ys : List ℕ) (t : ℕ) → xs ≡ ys → get_or (take (length xs - t) (drop t xs)) 0 0 ≡ get_or ys t 0
-first_of_rest xs ys t e =
-    ap (λ zs. get_or zs 0 0) (rest_is xs t) ∙ get_or-drop t xs 0 0 ∙ ap (λ zs. get_or zs (t + 0) 0) e ∙ ap (λ n. get_or ys n 0) (let z : t + 0 ≡ t = omega arith in z)
-
-pub covers_told : (safety balance a t : ℕ) (gross sched gs ss : List ℕ) → gross ≡ gs → sched ≡ ss
-    → safety + get_or (take (length gross - t) (drop t gross)) 0 0 ≤ (balance + get_or (take (length sched - t) (drop t sched)) 0 0) + a
-    → ((balance + get_or sched t 0) + a - get_or gross t 0) + get_or gs t 0 ≡ (balance + get_or ss t 0) + a
-covers_told safety balance a t gross sched gs ss eg es h =
-    let g = first_of_rest gross gs t eg in
-    let s = first_of_rest sched ss t es in
-    let g' : get_or gross t 0 ≡ get_or gs t 0 = ap (λ zs. get_or zs t 0) eg in
-    let s' : get_or sched t 0 ≡ get_or ss t 0 = ap (λ zs. get_or zs t 0) es in
-    omega arith
 
 pub none_exceeds : (xs : List ℕ) → All (λ n. n ≤ limit) xs → exceeds xs ≡ false
 none_exceeds xs h = list_any_none (λ v. ltb limit v) xs (λ k d l. le-ltb limit (get_or xs k d) (h k d l))
@@ -215,3 +187,19 @@ pub not_large : (x : Input) (planned release : List ℕ) → All (λ n. n ≤ li
 not_large x planned release hg hp e h =
     ap (λ a. a || (exceeds planned || exceeds (releases x.calendar x.lead planned))) (none_exceeds x.gross hg)
     ∙ ap (λ b. b || exceeds (releases x.calendar x.lead planned)) (none_exceeds planned hp) ∙ ap exceeds (sym e) ∙ h
+
+-- the order of a day is that of the best list
+pub listed_order : (x : Input) (setup hold t : ℕ) (p orders : List ℕ) → x.lot ≡ lot.Best setup hold → AreBest x orders → t < days x → NettedTo x t p → IsOrder x (sum p) t (get_or orders t 0)
+listed_order x setup hold t p orders rule list h n =
+    subst (λ os. IsOrder x (sum p) t (get_or os t 0)) (sym (list setup hold rule)) (best_order x setup hold t p rule h n)
+
+-- the orders so far are seen through a slice
+pub order_here : (x : Input) (t a : ℕ) (p seen : List ℕ) → seen ≡ p → length p ≡ t → IsOrder x (sum seen) (length seen) a → IsOrder x (sum p) t a
+order_here x t a p seen e len o = subst (λ k. IsOrder x (sum p) k a) len (subst (λ q. IsOrder x (sum q) (length q) a) e o)
+
+pub next_balance : (safety balance a t : ℕ) (gross sched gs ss : List ℕ) → gross ≡ gs → sched ≡ ss → safety + get_or gs t 0 ≤ (balance + get_or ss t 0) + a
+    → ((balance + get_or sched t 0) + a - get_or gross t 0) + get_or gs t 0 ≡ (balance + get_or ss t 0) + a
+next_balance safety balance a t gross sched gs ss eg es h =
+    let g : get_or gross t 0 ≡ get_or gs t 0 = ap (λ zs. get_or zs t 0) eg in
+    let s : get_or sched t 0 ≡ get_or ss t 0 = ap (λ zs. get_or zs t 0) es in
+    omega arith

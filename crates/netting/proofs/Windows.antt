@@ -10,14 +10,16 @@ use Rattle.lot_sizing.proofs.LotLaws.{IsSoundLot}
 use Rattle.planning_rules.specs.Amounts.{IsLeast, IsAmount}
 use Rattle.planning_rules.specs.Netting.{Input, IsOrder, short_on, later, days}
 use Rattle.netting.specs.Windows.{looked}
-use Rattle.lot_sizing.specs.Shortages.{shortage, IsAmountFor}
+use Rattle.planning_rules.specs.Shortages.{shortage, IsAmountFor}
 use Rattle.netting.specs.Shortages.{shortages}
-use Rattle.netting.proofs.NetLaws.{begun, first_order, first_short}
+use Rattle.netting.proofs.NetLaws.{first_order, first_short}
+use Rattle.netting.specs.DayByDay.{begun}
 
 pub looked_some : (rule : Lot) (left : ℕ) → IsSoundLot rule → 1 ≤ left → 1 ≤ looked rule left
 looked_some lot.Exact left h some = omega arith
 looked_some (lot.Fixed q) left h some = omega arith
 looked_some (lot.Least least step) left h some = omega arith
+looked_some (lot.Best setup hold) left h some = some
 looked_some (lot.Period p) left h some = let one : 1 ≤ p = h.0 in omega arith
 
 pub looked_left : (rule : Lot) (left : ℕ) → 1 ≤ left → looked rule left ≤ left
@@ -25,6 +27,7 @@ looked_left lot.Exact left some = some
 looked_left (lot.Fixed q) left some = some
 looked_left (lot.Least least step) left some = some
 looked_left (lot.Period p) left some = omega arith
+looked_left (lot.Best setup hold) left some = omega arith
 
 -- the first numbers of a longer list
 first_of_range : (f : ℕ → ℕ) (q a n : ℕ) → q ≤ n → take q (map f (range_with_len a n)) ≡ map f (range_with_len a q)
@@ -52,6 +55,7 @@ amount_looked : (rule : Lot) (f : ℕ → ℕ) (n a : ℕ) → IsSoundLot rule �
 amount_looked lot.Exact f n a h some m = m
 amount_looked (lot.Fixed q) f n a h some m = m
 amount_looked (lot.Least least step) f n a h some m = m
+amount_looked (lot.Best setup hold) f n a h some m = m
 amount_looked (lot.Period p) f n a h some m = subst (λ xs. IsLeast (λ b. AllByRecursion (λ s. s ≤ b) xs) a) (first_same f p n h.0 some) m
 
 -- what a day falls short depends on the days up to it

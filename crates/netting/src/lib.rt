@@ -2,8 +2,6 @@
 #![tactic(auto)]
 
 mod step;
-#[cfg(test)]
-mod tests;
 
 pub use plan_schema::{NetFault, Outcome, Quantities};
 pub use step::{Input, net};

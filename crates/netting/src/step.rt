@@ -1,13 +1,16 @@
 //! The step of one part.
-ghost use Rattle.std.specs.Prelude.{◌≡◌, ℕ, ◌+◌, ◌-◌, ◌<◌, ◌≤◌, [], List, Bool, true, false, length, map, reverse, All, IsTrue, IfOk, IfErr, slice_index};
+ghost use Rattle.std.specs.Prelude.{◌≡◌, ℕ, ◌+◌, ◌-◌, ◌<◌, ◌≤◌, [], List, Bool, true, false, length, map, sum, reverse, All, IsTrue, IfOk, IfErr, slice_index};
 ghost use Rattle.planning_rules.specs.Days.{back, working_before};
 ghost use Rattle.planning_rules.specs.Netting.{IsOrder, Netted, limit, exceeds, balances, releases, late_sum, is_too_large, outcome_from};
 ghost use Rattle.plan_schema.specs.Sound.{is_sound_lot};
-ghost use Rattle.lot_sizing.specs.Shortages.{shortage, InReach};
+ghost use Rattle.planning_rules.specs.Shortages.{shortage, InReach};
+ghost use Rattle.planning_rules.specs.Amounts.{is_best};
+ghost use Rattle.netting.specs.DayByDay.{IsPlannedTo, AreBest, begun};
 ghost use Rattle.netting.specs.Inputs.{IsWithin, given, WhereLarge, told};
 ghost use Rattle.netting.specs.Shortages.{shortages};
 ghost use Rattle.netting.specs.Windows.{looked};
 
+use lot_optimal::fill_best;
 use lot_sizing::lot;
 use plan_calendar::Calendar;
 use plan_schema::{Lot, NetFault, Outcome, Qty, Quantities, Release, Series, Steps};
@@ -67,6 +70,7 @@ fn looked_at(rule: &Lot, left: usize) -> usize
     match rule {
         Lot::Period(days) => left.min(*days as usize),
         Lot::Exact | Lot::Fixed(_) | Lot::Least { .. } => 1,
+        Lot::Best { .. } => left,
     }
 }
 
@@ -87,10 +91,10 @@ fn order_of(
     requires balance { balance ≤ 600000000000000000 }
     requires safety { safety ≤ 1000000000 }
     requires rule { is_sound_lot rule.now ≡ true }
+    requires kind { is_best rule.now ≡ false }
     requires gross { All (λ g. g ≤ 1000000000000000) gross.now }
     requires sched { All (λ s. s ≤ 200000000000000) sched.now }
-    ensures order { IsOrder (record { stock = balance; safety = safety; lot = rule.now; lead = 0; calendar = []; gross = gross.now; sched = sched.now }) 0 0 result }
-    ensures covers { safety + slice_index gross.now 0 ≤ (balance + slice_index sched.now 0) + result }
+    ensures { IsOrder (begun rule.now balance safety gross.now sched.now) 0 0 result }
 {
     if safety + gross[0] <= balance + sched[0] {
         return 0;
@@ -99,6 +103,56 @@ fn order_of(
     let short = &mut short[..days];
     fill_short(short, balance, safety, &gross[..days], &sched[..days]);
     lot(rule, short)
+}
+
+/// The best list of a part with least-cost lots, for the whole horizon; of any other part nothing is written.
+fn fill_orders(input: &Input, short: &mut [i64], orders: &mut [u64])
+    requires within { IsWithin input.now }
+    requires room { length short.old ≡ length input.now.gross }
+    requires days { length orders.old ≡ length input.now.gross }
+    ensures { AreBest (given input.now) orders.new }
+{
+    if let Lot::Best { setup, hold } = input.lot {
+        let gross = input.gross.as_slice();
+        let sched = input.sched.as_slice();
+        fill_short(short, input.stock, input.safety, gross, sched);
+        fill_best(setup, hold, short, orders);
+    }
+}
+
+/// The order of the day after those planned, from the balance before it: of a least-cost lot that of the best list, which is the same as
+/// to look for it anew on each day. Of any other the work is that of the days that the lot rule looks at.
+fn next_order(
+    input: &Input,
+    planned: &[u64],
+    balance: u64,
+    orders: &[u64],
+    short: &mut [i64],
+) -> u64
+    requires within { IsWithin input.now }
+    requires day { length planned.now < length input.now.gross }
+    requires balance { balance ≤ 600000000000000000 }
+    requires going { IsPlannedTo (given input.now) (length planned.now) planned.now balance }
+    requires orders { AreBest (given input.now) orders.now }
+    requires days { length orders.now ≡ length input.now.gross }
+    requires room { length short.old ≡ length input.now.gross }
+    ensures { IsOrder (given input.now) (sum planned.now) (length planned.now) result }
+{
+    let day = planned.len();
+    if let Lot::Best { .. } = input.lot {
+        return orders[day];
+    }
+    let gross = &input.gross.as_slice()[day..];
+    let sched = &input.sched.as_slice()[day..];
+    let room = gross.len();
+    order_of(
+        &input.lot,
+        balance,
+        input.safety,
+        gross,
+        sched,
+        &mut short[..room],
+    )
 }
 
 /// Orders and balances in order of days.
@@ -119,19 +173,15 @@ fn plan_days(alloc: Global, input: &Input) -> Result<Days, NetFault>
     let gross = input.gross.as_slice();
     let sched = input.sched.as_slice();
     let mut short = [0i64; 400];
+    let mut orders = [0u64; 400];
+    let short = &mut short[..gross.len()];
+    let orders = &mut orders[..gross.len()];
+    fill_orders(input, short, orders);
     let mut planned = Vec::new(alloc);
     let mut balances = Vec::new(alloc);
     let mut balance = input.stock;
     for day in 0..gross.len() {
-        let room = gross.len() - day;
-        let order = order_of(
-            &input.lot,
-            balance,
-            input.safety,
-            &gross[day..],
-            &sched[day..],
-            &mut short[..room],
-        );
+        let order = next_order(input, planned.as_slice(), balance, orders, short);
         if order > LIMIT {
             return Err(NetFault::TooLarge);
         }

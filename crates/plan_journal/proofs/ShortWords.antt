@@ -8,7 +8,7 @@ use Rattle.std.proofs.lemmas.Fmt.{length-decimal-le}
 use Rattle.plan_schema.specs.declared.key.Key.{Key}
 use Rattle.plan_schema.specs.declared.key.Key.TheVariants as keys
 use Rattle.plan_schema.specs.declared.key.Lot.{Lot}
-use Rattle.plan_schema.specs.declared.key.Lot.TheVariants.{Exact, Fixed, Least, Period}
+use Rattle.plan_schema.specs.declared.key.Lot.TheVariants.{Exact, Fixed, Least, Period, Best}
 use Rattle.plan_schema.specs.declared.key.Span.{Span}
 use Rattle.plan_schema.specs.declared.key.Record.{Record}
 use Rattle.plan_schema.specs.declared.key.Record.TheVariants as records
@@ -101,6 +101,16 @@ lot_short (Period days) h =
     let digits = digits_short days (le_true days 1_000_000_000 (omega arith)) in
     let short_digits = digits.0 in
     short (codes "POQ:" ++ decimal days) (omega (arith, length-append (codes "POQ:") (decimal days))) (some_seen 80 (79 ∷ 81 ∷ 58 ∷ decimal days) (and_true refl (and_true refl (and_true refl (and_true refl digits.1)))))
+lot_short (Best setup hold) h =
+    let p = and_parts (is_quantity setup) (nat_le hold 1_000_000) h in
+    let low : hold ≤ 1_000_000 = let e = p.1 in grind (arith, nat_tests) in
+    let first = digits_short setup p.0 in
+    let second = digits_short hold (le_true hold 1_000_000_000 (omega arith)) in
+    let few = first.0 in
+    let more = second.0 in
+    short (codes "WW:" ++ decimal setup ++ 58 ∷ decimal hold)
+    (omega (arith, length-append (codes "WW:" ++ decimal setup) (58 ∷ decimal hold), length-append (codes "WW:") (decimal setup)))
+    (some_seen 87 (87 ∷ 58 ∷ (decimal setup ++ 58 ∷ decimal hold)) (and_true refl (and_true refl (and_true refl (all-append is_seen (decimal setup) (58 ∷ decimal hold) first.1 (and_true refl second.1))))))
 
 mark_seen : (works : Bool) → is_seen (mark works) ≡ true
 mark_seen true = refl

@@ -4,7 +4,7 @@ use Rattle.std.specs.List.{list_all}
 use Rattle.plan_schema.specs.declared.key.Key.{Key}
 use Rattle.plan_schema.specs.declared.key.Key.TheVariants as keys
 use Rattle.plan_schema.specs.declared.key.Lot.{Lot}
-use Rattle.plan_schema.specs.declared.key.Lot.TheVariants.{Exact, Fixed, Least, Period}
+use Rattle.plan_schema.specs.declared.key.Lot.TheVariants.{Exact, Fixed, Least, Period, Best}
 use Rattle.plan_schema.specs.declared.key.Span.{Span}
 use Rattle.plan_schema.specs.declared.key.Record.{Record}
 use Rattle.plan_schema.specs.declared.key.Record.TheVariants as records
@@ -63,6 +63,7 @@ is_sound_lot Exact = true
 is_sound_lot (Fixed qty) = nat_le 1 qty && is_quantity qty
 is_sound_lot (Least least step) = is_quantity least && nat_le 1 step && is_quantity step
 is_sound_lot (Period days) = nat_le 1 days && nat_le days 400
+is_sound_lot (Best setup hold) = is_quantity setup && nat_le hold 1_000_000
 
 abbrev pub is_sound_span : Option Span → Bool
 is_sound_span None = true

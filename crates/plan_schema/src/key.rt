@@ -42,6 +42,8 @@ pub enum Lot {
     Least { least: Qty, step: Qty },
     /// Period order quantity: what that many days need from this one on.
     Period(u16),
+    /// Least cost, with a setup per order and the holding of a unit for a day.
+    Best { setup: Qty, hold: Qty },
 }
 
 /// The days from one to another, both of them with it.

@@ -1,3 +1,8 @@
+pub mod LeastCost
+pub mod BestIsCheapest
+pub mod BestLotLaws
+pub mod Again
+pub mod PlannedBest
 pub mod NettedLaws
 pub mod Membership
 pub mod Counting
@@ -12,3 +17,5 @@ pub mod Reach
 pub mod PegLaws
 pub mod PromiseLaws
 pub mod Worked
+pub mod WorkedBest
+pub mod WorkedTraces

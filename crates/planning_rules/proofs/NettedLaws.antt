@@ -11,6 +11,7 @@ use Rattle.plan_schema.specs.declared.key.Lot.TheVariants as lot
 use Rattle.planning_rules.specs.Amounts.{IsLeast, IsAmount, IsMultiple, amount, rounded_up, greatest}
 use Rattle.planning_rules.specs.Netting.{Input, IsOrder, NettedTo, Netted, days, short_on, later, order_on, planned_to, planned_of, HasStep}
 use Rattle.planning_rules.specs.Laws.{OneNetting}
+use Rattle.planning_rules.proofs.BestLotLaws.{first_is_least}
 
 -- the least is one
 pub least_unique : {P : ℕ → Type 0} (a b : ℕ) → IsLeast P a → IsLeast P b → a ≡ b
@@ -85,6 +86,7 @@ pub amount_is : (rule : Lot) (short : ℕ) (after : List ℕ) → HasStep rule �
 amount_is lot.Exact short after h = (le_refl _, λ b e. e)
 amount_is (lot.Fixed q) short after h = multiple_least q short h
 amount_is (lot.Least least more) short after h = multiple_least more (max short least) h
+amount_is (lot.Best setup hold) short after h = first_is_least setup hold short after
 amount_is (lot.Period p) short after h = (greatest_is_enough (take p (short ∷ after)), greatest_is_least (take p (short ∷ after)))
 
 order_is : (x : Input) (made t : ℕ) → HasStep x.lot → IsOrder x made t (order_on x made t)

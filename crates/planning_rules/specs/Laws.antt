@@ -1,5 +1,5 @@
 -- What holds of the definitions of planning.
-use Rattle.std.specs.Prelude.{◌≡◌, ℕ, List, Bool, true, false, not, ◌||◌, ◌&&◌, Option, Some, None, is_some, is_none, ◌<◌, length, sum_by, Contains}
+use Rattle.std.specs.Prelude.{◌+◌, ◌≤◌, ◌≡◌, ◌↔◌, ℕ, List, ◌∷◌, Bool, true, false, not, ◌||◌, ◌&&◌, Option, Some, None, is_some, is_none, ◌<◌, length, sum_by, Contains}
 use Rattle.std.specs.List.{AllByRecursion, list_any, list_all}
 use Rattle.std.specs.Ordering.{is_lt}
 use Rattle.plan_schema.specs.declared.name.Name.{Name}
@@ -9,7 +9,10 @@ use Rattle.plan_schema.specs.declared.refusal.Refusal.TheVariants as refusals
 use Rattle.plan_schema.specs.Key.{name_cmp}
 use Rattle.plan_schema.specs.Contents.{Contents, record_at}
 use Rattle.planning_rules.specs.Bills.{bills_of, is_above, is_ancestor, level}
-use Rattle.planning_rules.specs.Netting.{Input, HasStep, Netted, planned_of}
+use Rattle.plan_schema.specs.declared.key.Lot.TheVariants as lots
+use Rattle.planning_rules.specs.BestLots.{IsCovered, IsBest, needs, cost, best, first_order}
+use Rattle.planning_rules.specs.Amounts.{IsAmount}
+use Rattle.planning_rules.specs.Netting.{Input, HasStep, Netted, planned_of, shortages_of, KeepsSafety, above_from}
 use Rattle.planning_rules.specs.Plan.{Known, plan, plan_step, gross_on}
 use Rattle.planning_rules.specs.Refused.{in_reach, is_cyclic, is_part, lacks_calendar, least_name, level_refusal, plan_refusal}
 use Rattle.planning_rules.specs.Pegs.{pegs_from, peg_qty}
@@ -86,3 +89,29 @@ reach_is_whole c asked = list_all (λ n. is_part c n && not (lacks_calendar c (r
 -- there a plan is refused as cyclic exactly where some asked name has no level
 abbrev pub PlanIsCyclic : Type 0
 PlanIsCyclic = (c : Contents) (asked : List Name) → reach_is_whole c asked ≡ true → says_cyclic (plan_refusal c asked) ≡ list_any (λ n. is_none (level c n)) asked
+
+-- exactly one list is the best for what is short
+abbrev pub OneBest : Type 0
+OneBest = (setup hold : ℕ) (short : List ℕ) → IsBest setup hold short (best setup hold (needs short)) × ((orders : List ℕ) → IsBest setup hold short orders → orders ≡ best setup hold (needs short))
+
+-- no list of orders that is enough costs less than the best, simple or not
+abbrev pub BestCostsLeast : Type 0
+BestCostsLeast = (setup hold : ℕ) (short orders : List ℕ) → IsCovered short orders → cost setup hold short (best setup hold (needs short)) ≤ cost setup hold short orders
+
+-- the amount of a least-cost lot is the first order of the best list
+abbrev pub AmountIsFirst : Type 0
+AmountIsFirst = (setup hold short a : ℕ) (later : List ℕ) → IsAmount (lots.Best setup hold) short later a ↔ (a ≡ first_order (best setup hold (needs (short ∷ later))))
+
+-- the planned orders of a part with least-cost lots, each looked for on its own day, are the best list for what is short over the whole
+-- horizon
+abbrev pub PlannedIsBest : Type 0
+PlannedIsBest = (x : Input) (setup hold : ℕ) → x.lot ≡ lots.Best setup hold → planned_of x ≡ best setup hold (needs (shortages_of x))
+
+-- the planned orders of a part with least-cost lots cost no more than any orders that keep each balance at safety or above
+abbrev pub PlannedCostsLeast : Type 0
+PlannedCostsLeast = (x : Input) (setup hold : ℕ) → x.lot ≡ lots.Best setup hold → (orders : List ℕ) → KeepsSafety x orders
+    → cost setup hold (shortages_of x) (planned_of x) ≤ cost setup hold (shortages_of x) orders
+
+-- holding counted on the balance above safety differs by an amount that is the same for all such orders
+abbrev pub AboveIsCost : Type 0
+AboveIsCost = (x : Input) (setup hold : ℕ) → (more : ℕ) × ((orders : List ℕ) → KeepsSafety x orders → above_from setup hold x 0 0 orders ≡ cost setup hold (shortages_of x) orders + more)

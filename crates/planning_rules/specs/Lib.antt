@@ -1,11 +1,14 @@
 pub mod Bills
 pub mod Days
+pub mod BestLots
 pub mod Amounts
+pub mod Shortages
 pub mod Netting
 pub mod Plan
 pub mod Refused
 pub mod Pegs
 pub mod Promise
+pub mod Trace
 pub mod Laws
 pub use Rattle.plan_schema.specs.Key
 pub use Rattle.plan_schema.specs.Contents

@@ -1,11 +1,12 @@
 -- Netting (Orlicky's record, with safety stock as a floor of the balance): the planned orders of a part, as a relation on whole
 -- lists. There is no negative number: a day is short by what is asked up to it less what there is up to it, and `-` stops at 0.
-use Rattle.std.specs.Prelude.{◌≡◌, ℕ, zero, suc, ◌+◌, ◌-◌, ◌<◌, ◌≤◌, List, [], ◌∷◌, ◌++◌, Bool, ◌==◌, nat_lt, ◌||◌, if◌then◌else◌, length, take, map, slice_index, sum}
+use Rattle.std.specs.Prelude.{◌≡◌, ℕ, zero, suc, ◌+◌, ◌-◌, ◌*◌, ◌<◌, ◌≤◌, List, [], ◌∷◌, ◌++◌, Bool, ◌==◌, nat_lt, ◌||◌, if◌then◌else◌, length, take, map, slice_index, sum}
 use Rattle.std.specs.List.{range_with_len, list_any}
 use Rattle.plan_schema.specs.declared.key.Lot.{Lot}
 pub use Rattle.plan_schema.specs.declared.outcome.Outcome.{Outcome as Lists}
 use Rattle.plan_schema.specs.declared.key.Lot.TheVariants as lot
 use Rattle.planning_rules.specs.Amounts.{IsAmount, amount}
+use Rattle.planning_rules.specs.BestLots.{setup_of}
 use Rattle.planning_rules.specs.Days.{back}
 
 -- what a part's step starts from
@@ -106,3 +107,17 @@ HasStep lot.Exact = Unit {0}
 HasStep (lot.Fixed q) = 1 ≤ q
 HasStep (lot.Least least more) = 1 ≤ more
 HasStep (lot.Period p) = 1 ≤ p
+HasStep (lot.Best setup hold) = Unit {0}
+
+-- the shortages of all days, where nothing is planned
+abbrev pub shortages_of : Input → List ℕ
+shortages_of x = map (short_on x 0) (range_with_len 0 (days x))
+
+-- orders that keep the balance of each day of the horizon at safety or above
+abbrev pub KeepsSafety : Input → List ℕ → Type 0
+KeepsSafety x orders = (length orders ≡ days x) × ((t : ℕ) → t < days x → short_on x (sum (take (suc t) orders)) t ≡ 0)
+
+-- what orders cost where holding is counted on the balance above safety, from day t on, for n days, where the orders before are `made`
+abbrev pub above_from : ℕ → ℕ → Input → ℕ → ℕ → List ℕ → ℕ
+above_from setup hold x made t [] = 0
+above_from setup hold x made t (q ∷ orders) = (setup_of setup q + hold * (there x (made + q) t - asked x t)) + above_from setup hold x (made + q) (suc t) orders

@@ -121,3 +121,8 @@ plan_within (suc names) c n = plan_step (plan_within names c) c n
 -- the plan of n; a name on a cycle, or below one, has none
 abbrev pub plan : Contents → Name → Option Known
 plan c n = plan_within (longest_chain c) c n
+
+-- the lists of a planned part
+abbrev pub lists_of : Option Known → Lists
+lists_of (Some (Planned lists)) = lists
+lists_of _ = record { gross = []; sched = []; planned = []; balance = []; release = []; late = 0 }

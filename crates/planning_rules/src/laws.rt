@@ -1,5 +1,5 @@
 //! What holds of the definitions of planning: each law is the contract of a function that does nothing.
-ghost use Rattle.planning_rules.specs.Laws.{ChainsAreShort, CyclicHasNoLevel, CyclicIsNoLevel, LeastIsPromise, LeastNameIsLeast, LevelIsRefused, NoLevelIsCyclic, NoLevelIsNoPlan, OneNetting, PegsAreGross, PlanIsCyclic, PlanIsStep, WalkIsPlan};
+ghost use Rattle.planning_rules.specs.Laws.{AboveIsCost, AmountIsFirst, BestCostsLeast, OneBest, PlannedCostsLeast, PlannedIsBest, ChainsAreShort, CyclicHasNoLevel, CyclicIsNoLevel, LeastIsPromise, LeastNameIsLeast, LevelIsRefused, NoLevelIsCyclic, NoLevelIsNoPlan, OneNetting, PegsAreGross, PlanIsCyclic, PlanIsStep, WalkIsPlan};
 
 /// Exactly one list is that of the planned orders of an input.
 pub fn one_netting()
@@ -41,4 +41,15 @@ pub fn least_cyclic_name()
     ensures cyclic { CyclicIsNoLevel }
     ensures level { LevelIsRefused }
     ensures plan { PlanIsCyclic }
+{}
+
+/// Exactly one list of orders is the best, and none that is enough costs less (Wagner and Whitin's dynamic lot sizing). The amount of a
+/// least-cost lot is its first order; and netting, which looks for that anew on each day that is short, plans that very list.
+pub fn one_best()
+    ensures one { OneBest }
+    ensures least { BestCostsLeast }
+    ensures amount { AmountIsFirst }
+    ensures planned { PlannedIsBest }
+    ensures costs { PlannedCostsLeast }
+    ensures above { AboveIsCost }
 {}

@@ -4,6 +4,6 @@
 mod laws;
 
 pub use laws::{
-    cycles_alone, least_cyclic_name, least_promise, one_netting, pegs_are_gross, plan_by_steps,
-    short_chains,
+    cycles_alone, least_cyclic_name, least_promise, one_best, one_netting, pegs_are_gross,
+    plan_by_steps, short_chains,
 };

@@ -14,12 +14,12 @@ use Rattle.plan_schema.specs.declared.fault.Rule.{Rule}
 use Rattle.plan_schema.specs.declared.fault.Rule.TheVariants as rule
 use Rattle.plan_schema.specs.declared.fault.FieldFault.{FieldFault}
 use Rattle.plan_schema.specs.declared.key.Lot.{Lot}
-use Rattle.plan_schema.specs.declared.key.Lot.TheVariants.{Exact, Fixed, Least, Period}
+use Rattle.plan_schema.specs.declared.key.Lot.TheVariants.{Exact, Fixed, Least, Period, Best}
 use Rattle.plan_schema.specs.Name.{is_name}
 use Rattle.plan_schema.specs.Sound.{is_sound_lot, is_quantity, calendar_is_name}
 use Rattle.plan_schema.proofs.DayLaws.{uncons, none_left}
 use Rattle.row_text.specs.Number.{number_of, is_number}
-use Rattle.row_text.specs.Row.{◌>>=◌, at_field, text_at, lot_of, lot_at, fixed_of, period_of, least_of, least_split, least_and_step, week_of, week_at, works, calendar_in, calendar_at}
+use Rattle.row_text.specs.Row.{◌>>=◌, at_field, text_at, lot_of, lot_at, fixed_of, period_of, least_of, best_of, split_lot, least_and_step, setup_and_hold, week_of, week_at, works, calendar_in, calendar_at}
 use Rattle.row_text.specs.Spelling.{lot_text, week_text, mark, calendar_text}
 use Rattle.row_text.proofs.Fields.{and_true, le_true, bind_ok, chosen_ok, own, number_takes, number_again, decimal_is_number, text_at_ok, at_field_ok}
 
@@ -70,22 +70,43 @@ parts_takes first second lot h =
     subst (IsLotOf (codes "MM:" ++ (first ++ 58 ∷ second))) is
     (text, and_true (and_true (le_true a.0 1_000_000_000 least.2) (le_true 1 b.0 step.1)) (le_true b.0 1_000_000_000 step.2))
 
+costs_takes : (first second : List ℕ) (lot : Lot) → setup_and_hold first second ≡ Ok lot → IsLotOf (codes "WW:" ++ (first ++ 58 ∷ second)) lot
+unfolding setup_and_hold lot_text
+costs_takes first second lot h =
+    let formed = chosen_ok (is_number first && is_number second) Exact rule.Shape _ lot h in
+    let a = bind_ok (number_of 0 1_000_000_000 first) _ lot formed.1 in
+    let b = bind_ok (number_of 0 1_000_000 second) _ lot a.2 in
+    let setup = number_takes 0 1_000_000_000 first a.0 (omega arith) a.1 in
+    let hold = number_takes 0 1_000_000 second b.0 (omega arith) b.1 in
+    let is : Best a.0 b.0 ≡ lot = let e = b.2 in cc in
+    let text : codes "WW:" ++ (first ++ 58 ∷ second) ≡ codes "WW:" ++ (decimal a.0 ++ 58 ∷ decimal b.0) = λ i. codes "WW:" ++ (setup.0 i ++ 58 ∷ hold.0 i) in
+    subst (IsLotOf (codes "WW:" ++ (first ++ 58 ∷ second))) is (text, and_true (le_true a.0 1_000_000_000 setup.2) (le_true b.0 1_000_000 hold.2))
+
 split_at : (t : List ℕ) (k : ℕ) → k < length t → get_or t k 0 ≡ 58 → take k t ++ 58 ∷ drop (k + 1) t ≡ t
 split_at t k h e =
     let next : suc k ≡ k + 1 = omega arith in
     let here : drop k t ≡ 58 ∷ drop (k + 1) t = drop-cons t k 0 h ∙ (λ i. e i ∷ drop (next i) t) in
     ap (λ x. take k t ++ x) (sym here) ∙ take-append-drop k t
 
-least_takes : (t : List ℕ) (lot : Lot) → least_of t ≡ Ok lot → IsLotOf (codes "MM:" ++ t) lot
-unfolding least_of
-least_takes t lot h = found (position (λ b. b == 58) t) refl h
+-- a lot of two numbers, behind a word
+split_takes : (word : List ℕ) (both : List ℕ → List ℕ → Result Lot Rule) → ((first second : List ℕ) (lot : Lot) → both first second ≡ Ok lot → IsLotOf (word ++ (first ++ 58 ∷ second)) lot)
+    → (t : List ℕ) (lot : Lot) → split_lot both (position (λ b. b == 58) t) t ≡ Ok lot → IsLotOf (word ++ t) lot
+split_takes word both takes t lot h = found (position (λ b. b == 58) t) refl h
   where
-    found : (o : Option ℕ) → position (λ b. b == 58) t ≡ o → least_split o t ≡ Ok lot → IsLotOf (codes "MM:" ++ t) lot
+    found : (o : Option ℕ) → position (λ b. b == 58) t ≡ o → split_lot both o t ≡ Ok lot → IsLotOf (word ++ t) lot
     found None e g = cc
     found (Some k) e g =
         let at = position-Some (λ b. b == 58) t k 0 e in
         let colon : get_or t k 0 ≡ 58 = eqb-true (get_or t k 0) 58 at.1 in
-        subst (λ x. IsLotOf (codes "MM:" ++ x) lot) (split_at t k at.0 colon) (parts_takes (take k t) (drop (k + 1) t) lot g)
+        subst (λ x. IsLotOf (word ++ x) lot) (split_at t k at.0 colon) (takes (take k t) (drop (k + 1) t) lot g)
+
+least_takes : (t : List ℕ) (lot : Lot) → least_of t ≡ Ok lot → IsLotOf (codes "MM:" ++ t) lot
+unfolding least_of
+least_takes t lot h = split_takes (codes "MM:") least_and_step parts_takes t lot h
+
+best_takes : (t : List ℕ) (lot : Lot) → best_of t ≡ Ok lot → IsLotOf (codes "WW:" ++ t) lot
+unfolding best_of
+best_takes t lot h = split_takes (codes "WW:") setup_and_hold costs_takes t lot h
 
 exact_takes : (text : List ℕ) (lot : Lot) → pointwise nat_eq text (codes "L4L") ≡ true → read Exact ≡ read lot → IsLotOf text lot
 unfolding lot_text
@@ -99,7 +120,8 @@ lot_takes text lot h =
     chosen_from (IsLotOf text lot) _ _ _ _ (λ is e. exact_takes text lot is e) (λ _.
     chosen_from (IsLotOf text lot) _ _ _ _ (λ is e. subst (λ x. IsLotOf x lot) (sym (begins text (codes "FOQ:") is)) (fixed_takes (drop 4 text) lot e)) (λ _.
     chosen_from (IsLotOf text lot) _ _ _ _ (λ is e. subst (λ x. IsLotOf x lot) (sym (begins text (codes "MM:") is)) (least_takes (drop 3 text) lot e)) (λ _.
-    chosen_from (IsLotOf text lot) _ _ _ _ (λ is e. subst (λ x. IsLotOf x lot) (sym (begins text (codes "POQ:") is)) (period_takes (drop 4 text) lot e)) (λ _ e. cc)))) h
+    chosen_from (IsLotOf text lot) _ _ _ _ (λ is e. subst (λ x. IsLotOf x lot) (sym (begins text (codes "POQ:") is)) (period_takes (drop 4 text) lot e)) (λ _.
+    chosen_from (IsLotOf text lot) _ _ _ _ (λ is e. subst (λ x. IsLotOf x lot) (sym (begins text (codes "WW:") is)) (best_takes (drop 3 text) lot e)) (λ _ e. cc))))) h
 
 -- digits have no colon
 colon_behind : (xs ys : List ℕ) → list_all is_ascii_digit xs ≡ true → position_or_len (λ b. b == 58) (xs ++ 58 ∷ ys) ≡ length xs
@@ -116,16 +138,30 @@ colon_found xs ys h =
     let within : nat_lt (length xs) (length (xs ++ 58 ∷ ys)) ≡ true = let n = length-append xs (58 ∷ ys) in grind (arith, nat_tests) in
     ap (λ k. cond (nat_lt k (length (xs ++ 58 ∷ ys))) (Some k) None) at ∙ ap (λ t. cond t (Some (length xs)) None) within
 
+-- two numbers behind a colon are cut there
+split_again : (both : List ℕ → List ℕ → Result Lot Rule) (first second : List ℕ) → list_all is_ascii_digit first ≡ true
+    → split_lot both (position (λ b. b == 58) (first ++ 58 ∷ second)) (first ++ 58 ∷ second) ≡ both first second
+split_again both first second digits =
+    ap (λ o. split_lot both o (first ++ 58 ∷ second)) (colon_found first second digits)
+    ∙ (λ i. both (take-append_seam first (58 ∷ second) i) (drop-append-add first (58 ∷ second) 1 i))
+
 least_again : (least step : ℕ) → least ≤ 1_000_000_000 → 1 ≤ step → step ≤ 1_000_000_000 → least_of (decimal least ++ 58 ∷ decimal step) ≡ Ok (Least least step)
 unfolding least_of least_and_step
 least_again least step a b c =
     let form : is_number (decimal least) ≡ true = decimal_is_number least (omega arith) in
     let form2 : is_number (decimal step) ≡ true = decimal_is_number step (omega arith) in
     let digits : list_all is_ascii_digit (decimal least) ≡ true = digits_decimal own least (omega arith) in
-    let one : length (decimal least) + 1 ≡ length (decimal least) + 1 = refl in
     let made : least_and_step (decimal least) (decimal step) ≡ Ok (Least least step) = rw (form, form2, number_again 0 1_000_000_000 least (omega arith) (omega arith) a, number_again 1 1_000_000_000 step (omega arith) b c) in
-    ap (λ o. least_split o (decimal least ++ 58 ∷ decimal step)) (colon_found (decimal least) (decimal step) digits)
-    ∙ (λ i. least_and_step (take-append_seam (decimal least) (58 ∷ decimal step) i) (drop-append-add (decimal least) (58 ∷ decimal step) 1 i)) ∙ made
+    split_again least_and_step (decimal least) (decimal step) digits ∙ made
+
+best_again : (setup hold : ℕ) → setup ≤ 1_000_000_000 → hold ≤ 1_000_000 → best_of (decimal setup ++ 58 ∷ decimal hold) ≡ Ok (Best setup hold)
+unfolding best_of setup_and_hold
+best_again setup hold a b =
+    let form : is_number (decimal setup) ≡ true = decimal_is_number setup (omega arith) in
+    let form2 : is_number (decimal hold) ≡ true = decimal_is_number hold (omega arith) in
+    let digits : list_all is_ascii_digit (decimal setup) ≡ true = digits_decimal own setup (omega arith) in
+    let made : setup_and_hold (decimal setup) (decimal hold) ≡ Ok (Best setup hold) = rw (form, form2, number_again 0 1_000_000_000 setup (omega arith) (omega arith) a, number_again 0 1_000_000 hold (omega arith) (omega arith) b) in
+    split_again setup_and_hold (decimal setup) (decimal hold) digits ∙ made
 
 pub lot_again : (lot : Lot) → is_sound_lot lot ≡ true → lot_of (lot_text lot) ≡ Ok lot
 unfolding lot_of lot_text fixed_of period_of
@@ -144,6 +180,11 @@ lot_again (Period p) h =
     let least : 1 ≤ p = grind (arith, nat_tests) in
     let most : p ≤ 400 = grind (arith, nat_tests) in
     rw (number_again 1 400 p (omega arith) least most)
+lot_again (Best setup hold) h =
+    let p = and_parts (is_quantity setup) (nat_le hold 1_000_000) h in
+    let a : setup ≤ 1_000_000_000 = grind (arith, nat_tests) in
+    let b : hold ≤ 1_000_000 = grind (arith, nat_tests) in
+    best_again setup hold a b
 
 -- weeks -------------------------------------------------------------------------------------------------------------------
 

@@ -7,7 +7,7 @@ use Rattle.plan_schema.specs.declared.fault.Rule.{Rule}
 use Rattle.plan_schema.specs.declared.fault.Rule.TheVariants.{Shape, Range, Own}
 use Rattle.plan_schema.specs.declared.fault.FieldFault.{FieldFault}
 use Rattle.plan_schema.specs.declared.key.Lot.{Lot}
-use Rattle.plan_schema.specs.declared.key.Lot.TheVariants.{Exact, Fixed, Least, Period}
+use Rattle.plan_schema.specs.declared.key.Lot.TheVariants.{Exact, Fixed, Least, Period, Best}
 use Rattle.plan_schema.specs.declared.key.Key.{Key}
 use Rattle.plan_schema.specs.declared.key.Key.TheVariants as keys
 use Rattle.plan_schema.specs.declared.key.Span.{Span}
@@ -162,7 +162,7 @@ receipt_of fields = do
   _ ← end_at fields 5
   Ok (keys.Receipt part order, records.Receipt day qty)
 
--- lots: `L4L`, `FOQ:q`, `MM:min:mult` or `POQ:p`. A lot has its form before its numbers have their ranges
+-- lots: `L4L`, `FOQ:q`, `MM:min:mult`, `POQ:p` or `WW:setup:hold`. A lot has its form before its numbers have their ranges
 unfoldable pub fixed_of : List ℕ → Result Lot Rule
 fixed_of text = do
   q ← number_of 1 1_000_000_000 text
@@ -181,19 +181,32 @@ least_and_step first second =
       Ok (Least least step))
     else Err Shape
 
-abbrev pub least_split : Option ℕ → List ℕ → Result Lot Rule
-least_split None text = Err Shape
-least_split (Some k) text = least_and_step (take k text) (drop (k + 1) text)
+unfoldable pub setup_and_hold : List ℕ → List ℕ → Result Lot Rule
+setup_and_hold first second =
+    if is_number first && is_number second then (do
+      setup ← number_of 0 1_000_000_000 first
+      hold ← number_of 0 1_000_000 second
+      Ok (Best setup hold))
+    else Err Shape
+
+-- a text is cut at its first colon
+abbrev pub split_lot : (List ℕ → List ℕ → Result Lot Rule) → Option ℕ → List ℕ → Result Lot Rule
+split_lot both None text = Err Shape
+split_lot both (Some k) text = both (take k text) (drop (k + 1) text)
 
 unfoldable pub least_of : List ℕ → Result Lot Rule
-least_of text = least_split (position (λ b. b == 58) text) text
+least_of text = split_lot least_and_step (position (λ b. b == 58) text) text
+
+unfoldable pub best_of : List ℕ → Result Lot Rule
+best_of text = split_lot setup_and_hold (position (λ b. b == 58) text) text
 
 unfoldable pub lot_of : List ℕ → Result Lot Rule
 lot_of text =
     if pointwise nat_eq text (codes "L4L") then Ok Exact
     else (if starts_with nat_eq text (codes "FOQ:") then fixed_of (drop 4 text)
     else (if starts_with nat_eq text (codes "MM:") then least_of (drop 3 text)
-    else (if starts_with nat_eq text (codes "POQ:") then period_of (drop 4 text) else Err Shape)))
+    else (if starts_with nat_eq text (codes "POQ:") then period_of (drop 4 text)
+    else (if starts_with nat_eq text (codes "WW:") then best_of (drop 3 text) else Err Shape))))
 
 unfoldable pub lot_at : List (List ℕ) → ℕ → Result Lot FieldFault
 lot_at fields k = do

@@ -2,7 +2,7 @@
 use Rattle.std.specs.Prelude.{ℕ, Bool, false, slice_index_or, List, [], ◌∷◌, ◌++◌, Option, Some, None, if◌then◌else◌, codes, decimal}
 use Rattle.std.specs.List.{flat_map}
 use Rattle.plan_schema.specs.declared.key.Lot.{Lot}
-use Rattle.plan_schema.specs.declared.key.Lot.TheVariants.{Exact, Fixed, Least, Period}
+use Rattle.plan_schema.specs.declared.key.Lot.TheVariants.{Exact, Fixed, Least, Period, Best}
 use Rattle.plan_schema.specs.declared.key.Key.{Key}
 use Rattle.plan_schema.specs.declared.key.Key.TheVariants as keys
 use Rattle.plan_schema.specs.declared.key.Span.{Span}
@@ -19,12 +19,13 @@ abbrev pub words_text : List (List ℕ) → List ℕ
 words_text [] = []
 words_text (word ∷ words) = word ++ spaced words
 
--- `L4L`, `FOQ:q`, `MM:least:step` or `POQ:days`
+-- `L4L`, `FOQ:q`, `MM:least:step`, `POQ:days` or `WW:setup:hold`
 unfoldable pub lot_text : Lot → List ℕ
 lot_text Exact = codes "L4L"
 lot_text (Fixed q) = codes "FOQ:" ++ decimal q
 lot_text (Least least step) = codes "MM:" ++ decimal least ++ 58 ∷ decimal step
 lot_text (Period p) = codes "POQ:" ++ decimal p
+lot_text (Best setup hold) = codes "WW:" ++ decimal setup ++ 58 ∷ decimal hold
 
 -- a calendar's name, or `-` for none
 unfoldable pub calendar_text : Option (List ℕ) → List ℕ

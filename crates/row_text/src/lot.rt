@@ -24,6 +24,9 @@ pub(crate) fn lot(text: &[u8]) -> Result<Lot, Rule>
     if text.starts_with(b"POQ:") {
         return period(&text[4..]);
     }
+    if text.starts_with(b"WW:") {
+        return best(&text[3..]);
+    }
     Err(Rule::Shape)
 }
 
@@ -70,6 +73,33 @@ fn least_and_step(first: &[u8], second: &[u8]) -> Result<Lot, Rule>
     let least = read_number(first, 0, 1_000_000_000)?;
     let step = read_number(second, 1, 1_000_000_000)?;
     Ok(Lot::Least { least, step })
+}
+
+/// A setup and a holding cost, parted by a colon.
+#[tactic(auto, unfolding(crate::specs::Row::best_of))]
+fn best(text: &[u8]) -> Result<Lot, Rule>
+    ensures { result ≡ spec.best_of text.now }
+{
+    match colon_in(text) {
+        None => Err(Rule::Shape),
+        Some(at) => setup_and_hold(&text[..at], &text[at + 1..]),
+    }
+}
+
+/// A setup for each order, and a holding cost for each unit and day.
+#[tactic(auto, unfolding(crate::specs::Row::setup_and_hold))]
+fn setup_and_hold(first: &[u8], second: &[u8]) -> Result<Lot, Rule>
+    ensures { result ≡ spec.setup_and_hold first.now second.now }
+{
+    if !is_number(first) {
+        return Err(Rule::Shape);
+    }
+    if !is_number(second) {
+        return Err(Rule::Shape);
+    }
+    let setup = read_number(first, 0, 1_000_000_000)?;
+    let hold = read_number(second, 0, 1_000_000)?;
+    Ok(Lot::Best { setup, hold })
 }
 
 /// Where the first colon stands.

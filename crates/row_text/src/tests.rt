@@ -82,7 +82,12 @@ fn lots_are_read(rt: HostRuntime) {
         least: 25,
         step: 10,
     };
-    let cases: [(&[u8], Result<Lot, Rule>); 22] = [
+    let best = Lot::Best {
+        setup: 1_000_000_000,
+        hold: 1_000_000,
+    };
+    let free = Lot::Best { setup: 0, hold: 0 };
+    let cases: [(&[u8], Result<Lot, Rule>); 29] = [
         (b"L4L", Ok(Lot::Exact)),
         (b"FOQ:1", Ok(Lot::Fixed(1))),
         (b"FOQ:1000000000", Ok(Lot::Fixed(1_000_000_000))),
@@ -105,6 +110,13 @@ fn lots_are_read(rt: HostRuntime) {
         (b"MM:1:2:3", Err(Rule::Shape)),
         (b"MM:1000000001:x", Err(Rule::Shape)),
         (b"POQ:07", Err(Rule::Shape)),
+        (b"WW:1000000000:1000000", Ok(best)),
+        (b"WW:0:0", Ok(free)),
+        (b"WW:1000000001:0", Err(Rule::Range)),
+        (b"WW:0:1000001", Err(Rule::Range)),
+        (b"WW:5", Err(Rule::Shape)),
+        (b"WW:1000000001:x", Err(Rule::Shape)),
+        (b"WW:05:1", Err(Rule::Shape)),
     ];
     for (text, expected) in cases {
         assert_eq!(rt; lot(text), expected, "{text:?}");

@@ -207,6 +207,12 @@ fn lot_bytes(lot: &Lot) -> ArrayVec<u8, 48>
             push_text(&mut text, b"POQ:");
             push_digits(&mut text, u64::from(*days));
         }
+        Lot::Best { setup, hold } => {
+            push_text(&mut text, b"WW:");
+            push_digits(&mut text, *setup);
+            push_text(&mut text, b":");
+            push_digits(&mut text, *hold);
+        }
     }
     text
 }

@@ -5,7 +5,7 @@ use Rattle.std.specs.Ordering.{is_eq}
 use Rattle.std.specs.Cmp.{tied_itself}
 use Rattle.plan_schema.specs.declared.name.Name.{Name}
 use Rattle.plan_schema.specs.declared.key.Lot.{Lot}
-use Rattle.plan_schema.specs.declared.key.Lot.TheVariants.{Exact, Fixed, Least, Period}
+use Rattle.plan_schema.specs.declared.key.Lot.TheVariants.{Exact, Fixed, Least, Period, Best}
 use Rattle.plan_schema.specs.declared.key.Span.{Span}
 use Rattle.plan_schema.specs.declared.key.Record.{Record}
 use Rattle.plan_schema.specs.declared.key.Record.TheVariants as records
@@ -14,6 +14,14 @@ use Rattle.scenario_rules.specs.Same.{same_option, same_week, same_lot, same_spa
 use Rattle.scenario_rules.specs.Laws.{SameIsEqual}
 use Rattle.scenario_rules.proofs.Maps.{both_parts, both_so, is_equal}
 use Rattle.scenario_rules.proofs.Keys.{name_total, name_exact}
+
+-- what is false of two values of different kinds
+not_so : {A : Type 0} → false ≡ true → A
+not_so h = absurd (subst (λ b. not_true b) (sym h) tt)
+  where
+    not_true : Bool → Type 0
+    not_true true = Unit {0}
+    not_true false = ⊥
 
 one_number : (a b : ℕ) → (a == b) ≡ true → a ≡ b
 one_number a b h = eqb-true a b h
@@ -64,24 +72,15 @@ one_lot Exact Exact h = refl
 one_lot (Fixed q) (Fixed r) h = ap Fixed (one_number q r h)
 one_lot (Least l s) (Least m t) h = let two = both_parts (l == m) (s == t) h in λ i. Least (one_number l m two.0 i) (one_number s t two.1 i)
 one_lot (Period p) (Period q) h = ap Period (one_number p q h)
-one_lot Exact (Fixed r) h = cc
-one_lot Exact (Least m t) h = cc
-one_lot Exact (Period q) h = cc
-one_lot (Fixed q) Exact h = cc
-one_lot (Fixed q) (Least m t) h = cc
-one_lot (Fixed q) (Period r) h = cc
-one_lot (Least l s) Exact h = cc
-one_lot (Least l s) (Fixed r) h = cc
-one_lot (Least l s) (Period r) h = cc
-one_lot (Period p) Exact h = cc
-one_lot (Period p) (Fixed r) h = cc
-one_lot (Period p) (Least m t) h = cc
+one_lot (Best k o) (Best l p) h = let two = both_parts (k == l) (o == p) h in λ i. Best (one_number k l two.0 i) (one_number o p two.1 i)
+one_lot _ _ h = not_so h
 
 lot_itself : (a : Lot) → same_lot a a ≡ true
 lot_itself Exact = refl
 lot_itself (Fixed q) = itself q
 lot_itself (Least l s) = both_so (l == l) (s == s) (itself l) (itself s)
 lot_itself (Period p) = itself p
+lot_itself (Best k o) = both_so (k == k) (o == o) (itself k) (itself o)
 
 one_span : (a b : Span) → same_span a b ≡ true → a ≡ b
 one_span a b h =
@@ -90,14 +89,6 @@ one_span a b h =
 
 span_itself : (a : Span) → same_span a a ≡ true
 span_itself a = both_so (a.from == a.from) (a.to == a.to) (itself a.from) (itself a.to)
-
--- a record of one table is no record of another
-not_so : {A : Type 0} → false ≡ true → A
-not_so h = absurd (subst (λ b. not_true b) (sym h) tt)
-  where
-    not_true : Bool → Type 0
-    not_true true = Unit {0}
-    not_true false = ⊥
 
 one_record : (a b : Record) → same_record a b ≡ true → a ≡ b
 one_record (records.Plan s d) (records.Plan t e) h = let two = both_parts (s == t) (d == e) h in λ i. records.Plan (one_number s t two.0 i) (one_number d e two.1 i)

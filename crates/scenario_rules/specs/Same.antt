@@ -1,7 +1,7 @@
 -- Whether two records are the same, by table and by fields.
 use Rattle.std.specs.Prelude.{Bool, true, false, not, ◌&&◌, ◌==◌, if◌then◌else◌, List, [], ◌∷◌, Option, Some, None}
 use Rattle.plan_schema.specs.declared.key.Lot.{Lot}
-use Rattle.plan_schema.specs.declared.key.Lot.TheVariants.{Exact, Fixed, Least, Period}
+use Rattle.plan_schema.specs.declared.key.Lot.TheVariants.{Exact, Fixed, Least, Period, Best}
 use Rattle.plan_schema.specs.declared.key.Span.{Span}
 use Rattle.plan_schema.specs.declared.key.Record.{Record}
 use Rattle.plan_schema.specs.declared.key.Record.TheVariants as records
@@ -24,6 +24,7 @@ same_lot Exact Exact = true
 same_lot (Fixed qty) (Fixed other) = qty == other
 same_lot (Least least step) (Least other_least other_step) = (least == other_least) && (step == other_step)
 same_lot (Period days) (Period other) = days == other
+same_lot (Best setup hold) (Best other_setup other_hold) = (setup == other_setup) && (hold == other_hold)
 same_lot _ _ = false
 
 abbrev pub same_span : Span → Span → Bool

@@ -32,4 +32,5 @@ has_step (lots.Least least step) h =
     let parts = and_parts (is_quantity least && nat_le 1 step) (is_quantity step) h in
     let inner = and_parts (is_quantity least) (nat_le 1 step) parts.0 in
     grind (arith, nat_tests)
+has_step (lots.Best setup hold) h = tt
 has_step (lots.Period days) h = let parts = and_parts (nat_le 1 days) (nat_le days 400) h in grind (arith, nat_tests)

@@ -1,6 +1,6 @@
 use Rattle.std.proofs.Common.{◌≡◌, map, take}
 use Rattle.planning_rules.specs.Amounts.{greatest}
-use Rattle.lot_sizing.specs.Shortages.{shortage}
+use Rattle.planning_rules.specs.Shortages.{shortage}
 use Rattle.lot_sizing.proofs.LotLaws.{greatest_more}
 use Rattle.lot_sizing.proofs.greatest_of.Goals as goal
 

@@ -1,6 +1,6 @@
 use Rattle.std.proofs.Common.{◌≡◌, take, map}
 use Rattle.planning_rules.specs.Amounts.{greatest}
-use Rattle.lot_sizing.specs.Shortages.{shortage}
+use Rattle.planning_rules.specs.Shortages.{shortage}
 use Rattle.lot_sizing.proofs.greatest_of.Given as goal
 
 abbrev pub invariant-loop-s : goal.invariant-loop-s

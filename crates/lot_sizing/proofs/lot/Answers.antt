@@ -1,7 +1,7 @@
 use Rattle.std.proofs.Common.{map, max, ◌∙◌, sym, ap, arith}
 use Rattle.std.proofs.lemmas.List.{take_all}
 use Rattle.planning_rules.specs.Amounts.{rounded_up, greatest}
-use Rattle.lot_sizing.specs.Shortages.{shortage}
+use Rattle.planning_rules.specs.Shortages.{shortage}
 use Rattle.lot_sizing.proofs.LotLaws.{sound_lot, lot_meets, greatest_first}
 use Rattle.lot_sizing.proofs.lot.Goals as goal
 

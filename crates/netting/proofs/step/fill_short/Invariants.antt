@@ -1,7 +1,7 @@
 use Rattle.std.proofs.Common.{◌≡◌, ◌+◌, ◌-◌, ◌*◌, ◌≤◌, ◌<◌, ℕ, take, pos}
 use Rattle.std.specs.Prelude.{ℤ, slice_index_or}
 use Rattle.std.specs.List.{sum}
-use Rattle.lot_sizing.specs.Shortages.{shortage, InReach}
+use Rattle.planning_rules.specs.Shortages.{shortage, InReach}
 use Rattle.netting.proofs.step.fill_short.Given as goal
 
 abbrev pub invariant-loop-day : goal.invariant-loop-day

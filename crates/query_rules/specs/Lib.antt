@@ -1,0 +1,4 @@
+pub mod Queries
+pub mod Laws
+pub use Rattle.planning_rules.specs.Plan
+pub use Rattle.query_language.specs.Trees

@@ -1,5 +1,5 @@
-// A piece of a tree: its least shared part.
-ghost use Rattle.std.specs.Prelude.{◌≡◌, ◌<◌, ◌≤◌, [], ◌∷◌, ◌++◌, length, IfOk, Some, unwrap_or, slice_get};
+//! A piece of a tree: its least shared part.
+ghost use Rattle.std.specs.Prelude.{◌≡◌, ◌+◌, ◌<◌, ◌≤◌, [], ◌∷◌, ◌++◌, length, IfOk, OnOk, OnErr, Some, unwrap_or, slice_get};
 ghost use Rattle.std.specs.List.Sorted.{IsStrictlySortedBy};
 ghost use Rattle.std.specs.Option.{option_map};
 ghost use Rattle.std.specs.Arc.{arc_value};
@@ -14,7 +14,7 @@ use std::marker::Model;
 use std::sync::Arc;
 
 /// The most pairs of a piece.
-const MOST: usize = 64;
+pub(crate) const MOST: usize = 64;
 
 /// At least one pair and at most 64, in the order of their keys. Contracts see the list.
 #[derive(Drop)]
@@ -82,6 +82,28 @@ impl<K: Ord + Copy, V: Drop> Piece<K, V> {
         Piece::parted(pairs, lower)
     }
 
+    /// Puts the value under the key in place: an error where there is no room for one more pair.
+    pub(crate) fn put(&mut self, key: K, value: &Arc<V>) -> Result<(), AllocError>
+        ensures ok { OnOk result (self.new ≡ insert_entry K.cmp self.old key (arc_value value.now)) }
+        ensures err { OnErr result (self.new ≡ self.old) }
+    {
+        let value = Arc::try_clone(value)?;
+        match place_of(&self.pairs, &key) {
+            Ok(place) => {
+                let pair = &mut self.pairs[place];
+                pair.1 = value;
+                Ok(())
+            }
+            Err(place) => {
+                if self.pairs.len() >= MOST {
+                    return Err(AllocError);
+                }
+                self.pairs.insert(place, (key, value))?;
+                Ok(())
+            }
+        }
+    }
+
     /// Without the key and its value: nothing where it was the last.
     pub(crate) fn without(&self, key: &K) -> Result<Option<Self>, AllocError>
         ensures { IfOk result (λ p. unwrap_or p [] ≡ remove_entry (is_at (K.cmp key.now)) self.now) }
@@ -94,6 +116,34 @@ impl<K: Ord + Copy, V: Drop> Piece<K, V> {
             return Ok(None);
         }
         Ok(Some(Piece { pairs }))
+    }
+
+    /// Takes the key and its value out in place, where they are there: an error where they are the last pair.
+    pub(crate) fn take_out(&mut self, key: &K) -> Result<(), AllocError>
+        ensures ok { OnOk result (self.new ≡ remove_entry (is_at (K.cmp key.now)) self.old) }
+        ensures err { OnErr result (self.new ≡ self.old) }
+    {
+        let Ok(place) = place_of(&self.pairs, key) else {
+            return Ok(());
+        };
+        if self.pairs.len() == 1 {
+            return Err(AllocError);
+        }
+        self.pairs.remove(place);
+        Ok(())
+    }
+
+    /// One piece of these pairs and those of the next piece.
+    pub(crate) fn joined(&self, next: &Self) -> Result<Self, AllocError>
+        requires few { length self.now + length next.now ≤ 64 }
+        requires sorted { IsStrictlySortedBy K.cmp (keys_of (self.now ++ next.now)) }
+        ensures { IfOk result (λ p. p ≡ self.now ++ next.now) }
+    {
+        let len = self.pairs.len() + next.pairs.len();
+        let mut pairs = Vec::with_capacity(*self.pairs.allocator(), len)?;
+        share_pairs(&mut pairs, &self.pairs)?;
+        share_pairs(&mut pairs, &next.pairs)?;
+        Ok(Piece { pairs })
     }
 
     // One piece of the pairs, or two where they are too many for one: the lower gets as many as is said.

@@ -1,5 +1,5 @@
-// The pieces of a tree that has pairs.
-ghost use Rattle.std.specs.Prelude.{◌≡◌, ◌+◌, ◌<◌, [], ◌∷◌, ◌++◌, length, IfOk, IfSome, IsSome, Some, unwrap_or, slice_get, take, drop};
+//! The pieces of a tree that has pairs.
+ghost use Rattle.std.specs.Prelude.{◌≡◌, ◌+◌, ◌<◌, [], ◌∷◌, ◌++◌, length, IfOk, OnOk, OnErr, IfSome, IsSome, Some, unwrap_or, slice_get, take, drop};
 ghost use Rattle.std.specs.Option.{option_map};
 ghost use Rattle.std.specs.Arc.{arc_value};
 ghost use Rattle.std.specs.List.Sorted.{IsStrictlySortedBy};
@@ -8,7 +8,7 @@ ghost use Rattle.std.specs.BTreeMap.{is_at, insert_entry};
 ghost use Rattle.cell_tree.specs.Pairs.{all_pairs};
 ghost use Rattle.cell_tree.specs.Places.{IsBelow, IsAbove};
 
-use crate::piece::Piece;
+use crate::piece::{MOST, Piece};
 use crate::shares::{add_piece, share_pieces};
 use std::alloc::{AllocError, Global};
 use std::marker::Model;
@@ -91,19 +91,57 @@ impl<K: Ord + Copy, V: Drop> Pieces<K, V> {
         Ok(Pieces { list, len })
     }
 
+    /// Puts the value under the key. The key's piece is changed in place where no other tree shares it and it has room.
+    pub(crate) fn put(&mut self, key: K, value: Arc<V>) -> Result<(), AllocError>
+        ensures ok { OnOk result (self.new ≡ insert_entry K.cmp self.old key (arc_value value)) }
+        ensures err { OnErr result (self.new ≡ self.old) }
+    {
+        let len = self.len_with(&key).ok_or(AllocError)?;
+        let place = piece_for(&self.list, &key);
+        match put_within(&mut self.list, place, key, &value) {
+            Ok(()) => {
+                self.len = len;
+                Ok(())
+            }
+            Err(_) => {
+                let new = self.with(key, value)?;
+                *self = new;
+                Ok(())
+            }
+        }
+    }
+
     /// Nothing where no pair is left.
     pub(crate) fn without(&self, key: &K) -> Result<Option<Self>, AllocError>
         requires { IsSome (lookup (is_at (K.cmp key.now)) self.now) }
         ensures { IfOk result (λ p. unwrap_or p [] ≡ remove_entry (is_at (K.cmp key.now)) self.now) }
     {
-        let list = self.list_without(key)?;
+        let mut list = self.list_without(key)?;
         if list.is_empty() {
             return Ok(None);
         }
+        join_near(&mut list, piece_for(&self.list, key))?;
         Ok(Some(Pieces {
             list,
             len: self.len - 1,
         }))
+    }
+
+    /// Takes the key and its value out in place, where they are there: an error where another tree shares their piece, or it has no
+    /// other pair.
+    pub(crate) fn take_out(&mut self, key: &K) -> Result<(), AllocError>
+        ensures ok { OnOk result (self.new ≡ remove_entry (is_at (K.cmp key.now)) self.old) }
+        ensures err { OnErr result (self.new ≡ self.old) }
+    {
+        if self.get(key).is_none() {
+            return Ok(());
+        }
+        let place = piece_for(&self.list, key);
+        take_within(&mut self.list, place, key)?;
+        self.len -= 1;
+        // Where there is no memory for a joined piece, both stay.
+        let _ = join_near(&mut self.list, place);
+        Ok(())
     }
 
     // How many pairs there are with one under the key: nothing where they are too many to count.
@@ -173,4 +211,88 @@ fn replaced<K: Ord + Copy, V: Drop>(
     add_piece(&mut list, upper)?;
     share_pieces(&mut list, &pieces[place + 1..])?;
     Ok(list)
+}
+
+// Puts the value under the key in the piece at a place, which is for the key. An error where another tree shares the piece, or it has
+// no room.
+fn put_within<K: Ord + Copy, V: Drop>(
+    pieces: &mut Vec<Arc<Piece<K, V>>>,
+    place: usize,
+    key: K,
+    value: &Arc<V>,
+) -> Result<(), AllocError>
+    requires in_range { place < length pieces.old.items }
+    requires below { IsBelow K.cmp key (all_pairs (take place pieces.old.items)) }
+    requires above { IsAbove K.cmp key (all_pairs (drop (place + 1) pieces.old.items)) }
+    ensures ok { OnOk result (all_pairs pieces.new.items ≡ insert_entry K.cmp (all_pairs pieces.old.items) key (arc_value value.now)) }
+    ensures err { OnErr result (all_pairs pieces.new.items ≡ all_pairs pieces.old.items) }
+    ensures len { length pieces.new.items ≡ length pieces.old.items }
+{
+    match Arc::get_mut(&mut pieces[place]) {
+        Some(piece) => piece.put(key, value),
+        None => Err(AllocError),
+    }
+}
+
+// Takes the key and its value out of the piece at a place, which is for the key. An error where another tree shares the piece, or it has
+// no other pair.
+fn take_within<K: Ord + Copy, V: Drop>(
+    pieces: &mut Vec<Arc<Piece<K, V>>>,
+    place: usize,
+    key: &K,
+) -> Result<(), AllocError>
+    requires in_range { place < length pieces.old.items }
+    requires below { IsBelow K.cmp key.now (all_pairs (take place pieces.old.items)) }
+    requires above { IsAbove K.cmp key.now (all_pairs (drop (place + 1) pieces.old.items)) }
+    ensures ok { OnOk result (all_pairs pieces.new.items ≡ remove_entry (is_at (K.cmp key.now)) (all_pairs pieces.old.items)) }
+    ensures err { OnErr result (all_pairs pieces.new.items ≡ all_pairs pieces.old.items) }
+    ensures len { length pieces.new.items ≡ length pieces.old.items }
+{
+    match Arc::get_mut(&mut pieces[place]) {
+        Some(piece) => piece.take_out(key),
+        None => Err(AllocError),
+    }
+}
+
+// Joins small pieces about a place, at which pairs were taken away.
+fn join_near<K: Ord + Copy, V: Drop>(
+    pieces: &mut Vec<Arc<Piece<K, V>>>,
+    place: usize,
+) -> Result<(), AllocError>
+    requires sorted { IsStrictlySortedBy K.cmp (keys_of (all_pairs pieces.old.items)) }
+    ensures pairs { all_pairs pieces.new.items ≡ all_pairs pieces.old.items }
+    ensures some { 0 < length pieces.old.items → 0 < length pieces.new.items }
+{
+    join_next(pieces, place)?;
+    if place > 0 {
+        join_next(pieces, place - 1)?;
+    }
+    Ok(())
+}
+
+// Joins the piece at a place with the next one, if there is one, where both together are at most half full. So neither a few pairs
+// more nor a few less part them again, and any two neighbours that were joined when they could be have more than half a piece's pairs.
+fn join_next<K: Ord + Copy, V: Drop>(
+    pieces: &mut Vec<Arc<Piece<K, V>>>,
+    place: usize,
+) -> Result<(), AllocError>
+    requires sorted { IsStrictlySortedBy K.cmp (keys_of (all_pairs pieces.old.items)) }
+    ensures pairs { all_pairs pieces.new.items ≡ all_pairs pieces.old.items }
+    ensures some { 0 < length pieces.old.items → 0 < length pieces.new.items }
+{
+    let Some(last) = pieces.len().checked_sub(1) else {
+        return Ok(());
+    };
+    if place >= last {
+        return Ok(());
+    }
+    let first = &pieces[place];
+    let next = &pieces[place + 1];
+    if first.pairs().len() + next.pairs().len() > MOST / 2 {
+        return Ok(());
+    }
+    let joined = Arc::new(*pieces.allocator(), first.joined(next)?)?;
+    pieces[place] = joined;
+    pieces.remove(place + 1);
+    Ok(())
 }

@@ -1,4 +1,5 @@
-ghost use Rattle.std.specs.Prelude.{◌≡◌, ◌^◌, ◌<◌, [], length, IfOk, slice_get, ◌==◌};
+//! A persistent map whose pieces its copies share.
+ghost use Rattle.std.specs.Prelude.{◌≡◌, ◌^◌, ◌<◌, [], length, IfOk, OnOk, OnErr, slice_get, ◌==◌};
 ghost use Rattle.std.specs.Option.{option_map};
 ghost use Rattle.std.specs.Arc.{arc_value};
 ghost use Rattle.std.specs.List.Sorted.{IsStrictlySortedBy};
@@ -15,8 +16,9 @@ use std::sync::Arc;
 
 /// A map from keys to shared values. Contracts see its pairs as a list in the order of the keys.
 ///
-/// A tree never changes: `with` and `without` give a new one, which shares all pieces but one with the tree that it
-/// came from. They take time and memory for one piece of at most 64 pairs and for the list of the pieces.
+/// `with` and `without` give a new tree, which shares all pieces but one or two with the tree that it came from. They take time and
+/// memory for these pieces, of at most 64 pairs each, and for the list of the pieces. `put` and `remove` change the tree itself, and
+/// copy only what another tree shares, so that a run of changes to a tree of its own costs a search and a few moved pairs each.
 #[derive(Drop)]
 pub struct Tree<K: Ord, V> {
     root: Option<Arc<Pieces<K, V>>>,
@@ -134,5 +136,37 @@ impl<K: Ord + Copy, V: Drop> Tree<K, V> {
             root,
             alloc: self.alloc,
         })
+    }
+
+    /// Puts the value under the key, in place of the value that was there. What no other tree shares is changed in place.
+    pub fn put(&mut self, key: K, value: Arc<V>) -> Result<(), AllocError>
+        ensures ok { OnOk result (self.new ≡ insert_entry K.cmp self.old key (arc_value value)) }
+        ensures err { OnErr result (self.new ≡ self.old) }
+    {
+        if let Some(root) = &mut self.root {
+            if let Some(pieces) = Arc::get_mut(root) {
+                return pieces.put(key, value);
+            }
+        }
+        let new = self.with(key, value)?;
+        *self = new;
+        Ok(())
+    }
+
+    /// Takes the key and its value out, where they are there. What no other tree shares is changed in place.
+    pub fn remove(&mut self, key: &K) -> Result<(), AllocError>
+        ensures ok { OnOk result (self.new ≡ remove_entry (is_at (K.cmp key.now)) self.old) }
+        ensures err { OnErr result (self.new ≡ self.old) }
+    {
+        if let Some(root) = &mut self.root {
+            if let Some(pieces) = Arc::get_mut(root) {
+                if pieces.take_out(key).is_ok() {
+                    return Ok(());
+                }
+            }
+        }
+        let new = self.without(key)?;
+        *self = new;
+        Ok(())
     }
 }

@@ -1,4 +1,3 @@
-pub mod Counts
 pub mod Limits
 pub mod Histories
 pub mod RootLaws

@@ -18,7 +18,7 @@ use Rattle.scenario_rules.specs.Refused.{is_part_row}
 use Rattle.scenario_rules.specs.Whole.{AreWholeContents, AreWithinLimits}
 use Rattle.scenario_rules.proofs.Maps.{length_insert, length_remove}
 use Rattle.scenario_rules.proofs.Keys.{key_total, key_exact}
-use Rattle.plan_book.proofs.Counts.{passing_put, passing_taken}
+use Rattle.scenario_rules.proofs.Counts.{part_rows, passing_put, passing_taken}
 
 -- what a base is, part by part
 pub record IsBase (c : Contents) : Type 0 where
@@ -38,13 +38,6 @@ base_parts c h =
   where
     at_most : (n most : ℕ) → nat_le n most ≡ true → n ≤ most
     at_most n most h = grind (arith, nat_tests)
-
-part_rows : is_part_row ≡ (λ row. is_part_key row.0)
-part_rows = λ i row. same row i
-  where
-    same : (row : Key × Record) → is_part_row row ≡ is_part_key row.0
-    same (keys.Part name, value) = refl
-    same _ = refl
 
 -- a part is counted where its row is
 pub part_counts : (c : Contents) → count_by is_part_row c ≡ part_count c

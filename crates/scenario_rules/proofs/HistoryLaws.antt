@@ -27,7 +27,7 @@ refused_is_absent base history k entry refusal legal h e =
     no_such wrong = cc
 
 -- the root alone
-begin_whole : (base : Contents) → AreWholeContents base → AreWithinLimits base → IsWhole (begin_with base)
+pub begin_whole : (base : Contents) → AreWholeContents base → AreWithinLimits base → IsWhole (begin_with base)
 begin_whole base whole limits = record {
   ordered = refl;
   few = omega arith;
@@ -54,9 +54,9 @@ begin_whole base whole limits = record {
         no_such wrong = cc
 
 -- a sound entry that isn't refused after those before it
-record IsNext (base : Contents) (before : List Entry) (entry : Entry) : Type 0 where
-  sound : is_sound_entry entry ≡ true
-  accepted : refused base before entry.user entry.change ≡ None
+pub record IsNext (base : Contents) (before : List Entry) (entry : Entry) : Type 0 where
+  pub sound : is_sound_entry entry ≡ true
+  pub accepted : refused base before entry.user entry.change ≡ None
 
 last_of_six : (a b c d e f : Bool) → (a && b && c && d && e && f) ≡ true → f ≡ true
 last_of_six true true true true true f h = h
@@ -70,11 +70,11 @@ sound_change : (entry : Entry) → is_sound_entry entry ≡ true → is_sound_ch
 sound_change entry h =
     last_of_six (nat_le 1 entry.session) (nat_le entry.session 16) (nat_le 1 entry.line) (nat_le entry.line 1_000_000) (is_name entry.user) (is_sound_change entry.change) h
 
-first_none : (a b : Option Refusal) → first_of (a ∷ b ∷ []) ≡ None → a ≡ None
+pub first_none : (a b : Option Refusal) → first_of (a ∷ b ∷ []) ≡ None → a ≡ None
 first_none None b h = refl
 first_none (Some r) b h = cc
 
-next_whole : (base : Contents) (before : List Entry) (entry : Entry) → IsWhole (world_after base before) → IsNext base before entry → IsWhole (world_after base (before ++ entry ∷ []))
+pub next_whole : (base : Contents) (before : List Entry) (entry : Entry) → IsWhole (world_after base before) → IsNext base before entry → IsWhole (world_after base (before ++ entry ∷ []))
 next_whole base before entry whole next =
     subst IsWhole (sym (fold-append (λ w (e : Entry). step w e.user e.change) (begin_with base) before (entry ∷ [])))
     (step_keeps_whole (world_after base before) entry.user entry.change whole (sound_change entry next.sound)

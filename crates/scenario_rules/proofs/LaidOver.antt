@@ -44,15 +44,15 @@ all_remove test at (e ∷ es) h =
 
 -- one change ---------------------------------------------------------------------------------------------------------------------------
 
-changed_shows : (c : Contents) (k : Key) (new : Option Record) → is_ordered c ≡ true → record_at (changed c k new) k ≡ new
+pub changed_shows : (c : Contents) (k : Key) (new : Option Record) → is_ordered c ≡ true → record_at (changed c k new) k ≡ new
 changed_shows c k (Some value) h = lookup_insert_same key_total k value c
 changed_shows c k None h = lookup_remove_same key_total key_exact k c h
 
-others_show : (c : Contents) (q k : Key) (new : Option Record) → is_eq (key_cmp q k) ≡ false → record_at (changed c k new) q ≡ record_at c q
+pub others_show : (c : Contents) (q k : Key) (new : Option Record) → is_eq (key_cmp q k) ≡ false → record_at (changed c k new) q ≡ record_at c q
 others_show c q k (Some value) h = lookup_insert_other key_total q k value c h
 others_show c q k None h = lookup_remove_other key_total key_exact q k c h
 
-ordered_changed : (c : Contents) (k : Key) (new : Option Record) → is_ordered c ≡ true → is_ordered (changed c k new) ≡ true
+pub ordered_changed : (c : Contents) (k : Key) (new : Option Record) → is_ordered c ≡ true → is_ordered (changed c k new) ≡ true
 ordered_changed c k (Some value) h = sorted_insert key_total k value c h
 ordered_changed c k None h = sorted_remove key_cmp (is_at (key_cmp k)) c h
 
@@ -88,7 +88,7 @@ whole_laid c (change ∷ later) whole h =
     }) two.1
 
 -- below all own keys nothing is said
-nothing_below : (own : OwnChanges) (q k : Key) (under : Option Record) → is_eq (key_cmp q k) ≡ true → below_all key_cmp k own ≡ true → shown own q under ≡ under
+pub nothing_below : (own : OwnChanges) (q k : Key) (under : Option Record) → is_eq (key_cmp q k) ≡ true → below_all key_cmp k own ≡ true → shown own q under ≡ under
 nothing_below own q k under same below =
     ap (λ o. unwrap_or o under) (ap (λ x. lookup (is_at (key_cmp x)) own) (key_exact q k (is_equal (key_cmp q k) same)) ∙ lookup_below key_cmp k own below)
 

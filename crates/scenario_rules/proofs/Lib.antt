@@ -1,5 +1,6 @@
 pub mod Maps
 pub mod Keys
+pub mod Counts
 pub mod SameLaws
 pub mod LaidOver
 pub mod Wholeness

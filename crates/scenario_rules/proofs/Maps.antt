@@ -10,10 +10,10 @@ use Rattle.std.specs.declared.cmp.Ordering.{Ordering}
 use Rattle.std.specs.declared.cmp.Ordering.TheVariants.{Less, Equal, Greater}
 use Rattle.std.specs.Cmp.{IsTotalOrder, tied_itself}
 
-holds : (b : Bool) → b ≡ true → T b
+pub holds : (b : Bool) → b ≡ true → T b
 holds b e = subst T (sym e) tt
 
-is_so : (b : Bool) → T b → b ≡ true
+pub is_so : (b : Bool) → T b → b ≡ true
 is_so true h = refl
 is_so false h = absurd h
 
@@ -30,7 +30,7 @@ is_equal Equal h = refl
 is_equal Greater h = cc
 
 -- a key below all is not equal to the first
-less_apart : (r : Ordering) → is_lt r ≡ true → is_eq r ≡ false
+pub less_apart : (r : Ordering) → is_lt r ≡ true → is_eq r ≡ false
 less_apart Less h = refl
 less_apart Equal h = cc
 less_apart Greater h = refl
@@ -46,7 +46,7 @@ module _ {K X : Type 0} (R : K → K → Ordering) where
         | Greater ↦ ap (λ xs. e ∷ xs) rest
       ]
 
-  lookup_is_find : (q : K) (es : List (K × X)) → lookup (is_at (R q)) es ≡ find R q es
+  pub lookup_is_find : (q : K) (es : List (K × X)) → lookup (is_at (R q)) es ≡ find R q es
   lookup_is_find q [] = refl
   lookup_is_find q (e ∷ es) = λ i. cond (is_eq (R q e.0)) (Some e.1) (lookup_is_find q es i)
 
@@ -57,7 +57,7 @@ module _ {K X : Type 0} (R : K → K → Ordering) where
       let two = both_parts (is_lt (R q e.0)) (below_all R q es) h in
       ap (λ b. cond b (Some e.1) (lookup (is_at (R q)) es)) (less_apart (R q e.0) two.0) ∙ lookup_below q es two.1
 
-  below_remove : (x : K) (test : K → Bool) (es : List (K × X)) → below_all R x es ≡ true → below_all R x (remove_entry test es) ≡ true
+  pub below_remove : (x : K) (test : K → Bool) (es : List (K × X)) → below_all R x es ≡ true → below_all R x (remove_entry test es) ≡ true
   below_remove x test [] h = refl
   below_remove x test (e ∷ es) h =
       let two = both_parts (is_lt (R x e.0)) (below_all R x es) h in

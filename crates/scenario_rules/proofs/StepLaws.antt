@@ -73,10 +73,10 @@ each_refusal w user change =
     ∷ full_records w user change
     ∷ []
 
-passes : (w : World) (user : Name) (change : Change) → scenario_refusal w user change ≡ None → AllByRecursion (λ o. o ≡ None) (each_refusal w user change)
+pub passes : (w : World) (user : Name) (change : Change) → scenario_refusal w user change ≡ None → AllByRecursion (λ o. o ≡ None) (each_refusal w user change)
 passes w user change h = none_of (each_refusal w user change) h
 
-not_so : (b : Bool) (r : Refusal) → where_so b r ≡ None → b ≡ false
+pub not_so : (b : Bool) (r : Refusal) → where_so b r ≡ None → b ≡ false
 not_so true r h = cc
 not_so false r h = refl
 
@@ -105,12 +105,12 @@ some_is_none x h = absurd (no_such h)
     no_such h = cc
 
 -- the named scenario is there
-named_there : (w : World) (user : Name) (change : Change) → scenario_refusal w user change ≡ None → (x : Scenario) × (scenario_at w (named change) ≡ Some x)
+pub named_there : (w : World) (user : Name) (change : Change) → scenario_refusal w user change ≡ None → (x : Scenario) × (scenario_at w (named change) ≡ Some x)
 named_there w user change h =
     let first : no_scenario w (named change) ≡ None = (passes w user change h).0 in
     is_there (scenario_at w (named change)) (not_so (is_none (scenario_at w (named change))) (refusals.NoScenario (named change)) first)
 
-not_root : (s : Name) → where_so (is_root s) (refusals.Root s) ≡ None → is_root s ≡ false
+pub not_root : (s : Name) → where_so (is_root s) (refusals.Root s) ≡ None → is_root s ≡ false
 not_root s h = not_so (is_root s) (refusals.Root s) h
 
 -- an update, and a commit, of a scenario x that is there with a parent p

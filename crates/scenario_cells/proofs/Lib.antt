@@ -1,0 +1,9 @@
+pub mod Join
+pub mod RowLaws
+pub mod HeldLaws
+pub mod LaidLaws
+pub mod SameRecords
+pub mod LoadLaws
+pub mod RoomLaws
+pub mod GroupLaws
+pub mod InPlace

@@ -1,0 +1,6 @@
+pub mod Held
+pub mod Rows
+pub mod Laid
+pub mod Room
+pub mod Loads
+pub mod Grouped

@@ -1,0 +1,200 @@
+//! A scenario in memory, and what changes of its records make of it.
+ghost use Rattle.scenario_rules.specs.Steps.{all_put};
+ghost use Rattle.std.specs.Prelude.{◌<◌, length, ◌≡◌, [], ◌∷◌, IfOk, OnOk, if◌then◌else◌};
+ghost use Rattle.std.specs.BTreeMap.{insert_entry};
+ghost use Rattle.plan_schema.specs.Key.{key_cmp};
+ghost use Rattle.plan_schema.specs.Base.{is_part_key};
+ghost use Rattle.record_versions.specs.Versions.{cell_at};
+ghost use Rattle.scenario_cells.specs.Held.{IsHeld, IsReady, IsChanged, KeepsOlder};
+ghost use Rattle.scenario_cells.specs.Loads as spec;
+ghost use Rattle.scenario_cells.specs.Loads.{IsNextLoaded};
+
+use crate::rows::{put_row, put_row_in, recount, recount_if, row};
+use cell_tree::Tree;
+use plan_schema::{Key, Name, Record};
+use record_versions::{Ids, Store};
+use std::alloc::{AllocError, Global};
+use std::sync::Arc;
+
+/// A scenario in memory: the ids of the cells of its base and of its contents, its own changes, and how many parts and rows its
+/// contents have.
+#[derive(Drop)]
+pub struct Held {
+    pub parent: Option<Name>,
+    pub owner: Option<Name>,
+    pub private: bool,
+    pub base: Ids,
+    pub ids: Ids,
+    pub own: Tree<Key, Option<Record>>,
+    pub parts: usize,
+    pub records: usize,
+}
+
+/// The scenario with a record put under a key, or taken away.
+pub fn changed_row(
+    alloc: Global,
+    held: &Held,
+    store: &mut Store,
+    point: u64,
+    root: bool,
+    key: &Key,
+    value: &Option<Record>,
+) -> Result<Held, AllocError>
+    requires held { IsHeld (cell_at store.old) held.now }
+    requires ready { IsReady point root held.now }
+    ensures changed { IfOk result (λ new. IsChanged point root ((key.now, value.now) ∷ []) (cell_at store.old) (cell_at store.new) held.now new) }
+    ensures keeps { KeepsOlder point store.old store.new }
+{
+    let had = row(&held.ids, store, key).is_some();
+    let has = value.is_some();
+    let records = recount(held.records, had, has)?;
+    let part = is_part(key);
+    let parts = recount_if(part, held.parts, had, has)?;
+    let own = own_after(alloc, &held.own, root, key, value)?;
+    let ids = put_row(alloc, &held.ids, store, point, key, value)?;
+    let base = either(root, &ids, &held.base)?;
+    Ok(Held {
+        parent: held.parent,
+        owner: held.owner,
+        private: held.private,
+        base,
+        ids,
+        own,
+        parts,
+        records,
+    })
+}
+
+/// The scenario with rows put one after another.
+pub fn changed_rows(
+    alloc: Global,
+    held: &Held,
+    store: &mut Store,
+    point: u64,
+    root: bool,
+    rows: &[(Key, Record)],
+) -> Result<Held, AllocError>
+    requires some { 0 < length rows.now }
+    requires held { IsHeld (cell_at store.old) held.now }
+    requires ready { IsReady point root held.now }
+    ensures changed { IfOk result (λ new. IsChanged point root (all_put rows.now) (cell_at store.old) (cell_at store.new) held.now new) }
+    ensures keeps { KeepsOlder point store.old store.new }
+{
+    let mut loaded = begin_load(held)?;
+    for row in rows {
+        load_row(alloc, &mut loaded, store, point, root, &row.0, &Some(row.1))?;
+    }
+    let new = held_with(root, held, loaded)?;
+    Ok(new)
+}
+
+/// What a scenario has so far of rows that are put one after another.
+#[derive(Drop)]
+struct Loaded {
+    ids: Ids,
+    own: Tree<Key, Option<Record>>,
+    parts: usize,
+    records: usize,
+}
+
+fn begin_load(held: &Held) -> Result<Loaded, AllocError>
+    ensures { IfOk result (λ loaded. loaded ≡ record { ids = held.now.ids; own = held.now.own; parts = held.now.parts; records = held.now.records }) }
+{
+    let ids = held.ids.share()?;
+    let own = held.own.share()?;
+    Ok(Loaded {
+        ids,
+        own,
+        parts: held.parts,
+        records: held.records,
+    })
+}
+
+fn held_with(root: bool, held: &Held, loaded: Loaded) -> Result<Held, AllocError>
+    ensures { IfOk result (λ new. new ≡ spec.held_with root held.now loaded) }
+{
+    let base = either(root, &loaded.ids, &held.base)?;
+    Ok(Held {
+        parent: held.parent,
+        owner: held.owner,
+        private: held.private,
+        base,
+        ids: loaded.ids,
+        own: loaded.own,
+        parts: loaded.parts,
+        records: loaded.records,
+    })
+}
+
+/// Puts one row more in place. After an error what is loaded is of no use.
+fn load_row(
+    alloc: Global,
+    loaded: &mut Loaded,
+    store: &mut Store,
+    point: u64,
+    root: bool,
+    key: &Key,
+    value: &Option<Record>,
+) -> Result<(), AllocError>
+    ensures loaded { OnOk result (IsNextLoaded point root key.now value.now store.old loaded.old store.new loaded.new) }
+    ensures keeps { KeepsOlder point store.old store.new }
+{
+    let had = row(&loaded.ids, store, key).is_some();
+    let has = value.is_some();
+    let records = recount(loaded.records, had, has)?;
+    let part = is_part(key);
+    let parts = recount_if(part, loaded.parts, had, has)?;
+    load_own(alloc, &mut loaded.own, root, key, value)?;
+    put_row_in(alloc, &mut loaded.ids, store, point, key, value)?;
+    loaded.parts = parts;
+    loaded.records = records;
+    Ok(())
+}
+
+fn load_own(
+    alloc: Global,
+    own: &mut Tree<Key, Option<Record>>,
+    root: bool,
+    key: &Key,
+    value: &Option<Record>,
+) -> Result<(), AllocError>
+    ensures { OnOk result (own.new ≡ (if root then own.old else insert_entry key_cmp own.old key.now value.now)) }
+{
+    if root {
+        return Ok(());
+    }
+    let value = Arc::new(alloc, *value)?;
+    own.put(*key, value)?;
+    Ok(())
+}
+
+/// The own changes after one more: the root has none.
+fn own_after(
+    alloc: Global,
+    own: &Tree<Key, Option<Record>>,
+    root: bool,
+    key: &Key,
+    value: &Option<Record>,
+) -> Result<Tree<Key, Option<Record>>, AllocError>
+    ensures { IfOk result (λ new. new ≡ (if root then own.now else insert_entry key_cmp own.now key.now value.now)) }
+{
+    if root {
+        return own.share();
+    }
+    let value = Arc::new(alloc, *value)?;
+    let new = own.with(*key, value)?;
+    Ok(new)
+}
+
+/// One of two lists of ids.
+pub(crate) fn either(first: bool, ids: &Ids, others: &Ids) -> Result<Ids, AllocError>
+    ensures { IfOk result (λ chosen. chosen ≡ (if first then ids.now else others.now)) }
+{
+    if first { ids.share() } else { others.share() }
+}
+
+pub(crate) fn is_part(key: &Key) -> bool
+    ensures { result ≡ is_part_key key.now }
+{
+    matches!(key, Key::Part(_))
+}

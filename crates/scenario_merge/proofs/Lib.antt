@@ -1,0 +1,11 @@
+pub mod ForestLaws
+pub mod MergeLaws
+pub mod ReadLaws
+pub mod CommitLaws
+pub mod BranchLaws
+pub mod SweepLaws
+pub mod ShareLaws
+pub mod DropLaws
+pub mod LineLaws
+pub mod FirstLaws
+pub mod BeginLaws

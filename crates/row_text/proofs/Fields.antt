@@ -3,19 +3,17 @@ use Rattle.std.proofs.Common.{◌≡◌, ℕ, ◌^◌, ◌<◌, ◌≤◌, Bool,
 use Rattle.std.specs.Prelude.{decimal}
 use Rattle.std.specs.List.{slice_get, list_all}
 use Rattle.std.specs.Cmp.{first_so}
-use Rattle.std.specs.Cmp.Lexicographic.{pointwise, slice_cmp, texts_ties}
+use Rattle.std.specs.Cmp.Lexicographic.{pointwise, texts_ties}
 use Rattle.std.specs.Char.{is_ascii_digit}
-use Rattle.std.specs.Ordering.{is_eq, nat_cmp}
 use Rattle.std.proofs.lemmas.Bool.Decides.{nat_tests}
 use Rattle.std.proofs.lemmas.Bool.{cases_order}
 use Rattle.std.proofs.lemmas.Fmt.{decimal-digits_value, digits_decimal, digits_value-decimal, decimal_nonempty, first_decimal, decimal_digit}
 use Rattle.std.proofs.lemmas.Str.Parse.{IsNumeralModel, numerals_by_fold}
 use Rattle.plan_schema.specs.declared.fault.Rule.{Rule}
-use Rattle.plan_schema.specs.declared.fault.FieldFault.{FieldFault}
 use Rattle.plan_schema.specs.Name.{is_name}
 use Rattle.plan_schema.specs.Day.{is_day, day_of, day_text}
 use Rattle.plan_schema.specs.Key.{name_eq}
-use Rattle.plan_schema.proofs.DayLaws.{day_alone, day_read_again}
+use Rattle.plan_schema.proofs.DayLaws.{day_alone}
 use Rattle.row_text.specs.Number.{number_of, is_number, number_from}
 use Rattle.row_text.specs.Row.{◌>>=◌, at_field, text_of_field, text_at, end_at, name_in, name_at, number_at, day_at, component_at}
 

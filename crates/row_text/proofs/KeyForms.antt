@@ -1,8 +1,6 @@
 -- Key forms: what is read is a sound key and spelled so, and a sound key is read as it is spelled.
-use Rattle.std.proofs.Common.{◌≡◌, ℕ, Bool, true, false, not, ◌&&◌, cond, nat_eq, List, [], ◌∷◌, Option, Some, None, Result, Ok, Err, refl, ap, ◌∙◌, subst, sym}
+use Rattle.std.proofs.Common.{◌≡◌, ℕ, true, false, not, ◌&&◌, List, [], ◌∷◌, Result, Ok, Err, refl, subst, sym}
 use Rattle.std.specs.Prelude.{codes, IfOk}
-use Rattle.std.specs.List.{slice_get}
-use Rattle.std.specs.Cmp.Lexicographic.{pointwise, bytes_decides}
 use Rattle.std.proofs.lemmas.Bool.{and_parts}
 use Rattle.plan_schema.specs.declared.fault.FieldFault.{FieldFault}
 use Rattle.plan_schema.specs.declared.key.Key.{Key}
@@ -10,9 +8,9 @@ use Rattle.plan_schema.specs.declared.key.Key.TheVariants as keys
 use Rattle.plan_schema.specs.Name.{is_name}
 use Rattle.plan_schema.specs.Day.{is_day, day_text}
 use Rattle.plan_schema.specs.Key.{name_eq, key_eq}
-use Rattle.plan_schema.specs.Sound.{is_sound_key, key_has_names, are_apart}
+use Rattle.plan_schema.specs.Sound.{is_sound_key}
 use Rattle.plan_schema.proofs.DayLaws.{day_read_again}
-use Rattle.row_text.specs.Row.{◌>>=◌, at_field, text_at, end_at, name_in, name_at, day_at, component_at, one_name, two_names, holiday_key_of, bill_key_of, key_of_table, key_of}
+use Rattle.row_text.specs.Row.{text_at, end_at, name_in, name_at, day_at, component_at, one_name, two_names, holiday_key_of, bill_key_of, key_of_table, key_of}
 use Rattle.row_text.specs.Spelling.{key_fields}
 use Rattle.row_text.proofs.Fields.{and_true, bind_ok, text_at_ok, name_at_takes, day_at_takes, end_at_takes, component_at_takes, fields_are}
 use Rattle.row_text.proofs.Lots.{chosen_from}

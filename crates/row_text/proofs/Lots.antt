@@ -1,5 +1,5 @@
 -- Lots, weeks and calendars: what is read is spelled so, and what is spelled so is read.
-use Rattle.std.proofs.Common.{◌≡◌, ℕ, suc, zero, ◌+◌, ◌^◌, ◌<◌, ◌≤◌, Bool, true, false, not, ◌&&◌, ◌||◌, cond, nat_eq, nat_le, nat_lt, List, [], ◌∷◌, ◌++◌, length, take, drop, get_or, Option, Some, None, Result, Ok, Err, inl, inr, refl, sym, ap, ◌∙◌, subst, arith, length-append}
+use Rattle.std.proofs.Common.{◌≡◌, ℕ, suc, ◌+◌, ◌<◌, ◌≤◌, Bool, true, false, not, ◌&&◌, ◌||◌, cond, nat_eq, nat_le, nat_lt, List, [], ◌∷◌, ◌++◌, length, take, drop, get_or, Option, Some, None, Result, Ok, Err, inl, inr, refl, sym, ap, ◌∙◌, subst, arith, length-append}
 use Rattle.std.specs.Prelude.{decimal, codes, ◌==◌}
 use Rattle.std.specs.List.{slice_get, list_all, starts_with, position, position_or_len}
 use Rattle.std.specs.Cmp.Lexicographic.{pointwise, bytes_decides}
@@ -12,14 +12,13 @@ use Rattle.std.proofs.Math.Seq.{drop-cons, take-append_seam, drop-append-add}
 use Rattle.std.proofs.lemmas.Fmt.{digits_decimal}
 use Rattle.plan_schema.specs.declared.fault.Rule.{Rule}
 use Rattle.plan_schema.specs.declared.fault.Rule.TheVariants as rule
-use Rattle.plan_schema.specs.declared.fault.FieldFault.{FieldFault}
 use Rattle.plan_schema.specs.declared.key.Lot.{Lot}
 use Rattle.plan_schema.specs.declared.key.Lot.TheVariants.{Exact, Fixed, Least, Period, Best}
 use Rattle.plan_schema.specs.Name.{is_name}
 use Rattle.plan_schema.specs.Sound.{is_sound_lot, is_quantity, calendar_is_name}
 use Rattle.plan_schema.proofs.DayLaws.{uncons, none_left}
 use Rattle.row_text.specs.Number.{number_of, is_number}
-use Rattle.row_text.specs.Row.{◌>>=◌, at_field, text_at, lot_of, lot_at, fixed_of, period_of, least_of, best_of, split_lot, least_and_step, setup_and_hold, week_of, week_at, works, calendar_in, calendar_at}
+use Rattle.row_text.specs.Row.{at_field, text_at, lot_of, lot_at, fixed_of, period_of, least_of, best_of, split_lot, least_and_step, setup_and_hold, week_of, week_at, works, calendar_in, calendar_at}
 use Rattle.row_text.specs.Spelling.{lot_text, week_text, mark, calendar_text}
 use Rattle.row_text.proofs.Fields.{and_true, le_true, bind_ok, chosen_ok, own, number_takes, number_again, decimal_is_number, text_at_ok, at_field_ok}
 

@@ -1,29 +1,24 @@
 -- Rows and keys: what is read is sound and spelled so, and what is sound is read as it is spelled.
-use Rattle.std.proofs.Common.{◌≡◌, ℕ, suc, zero, ◌+◌, ◌<◌, ◌≤◌, Bool, true, false, not, ◌&&◌, cond, nat_eq, nat_le, List, [], ◌∷◌, length, Option, Some, None, Result, Ok, Err, refl, sym, ap, ◌∙◌, subst, arith}
-use Rattle.std.specs.Prelude.{decimal, codes, ◌==◌, IfOk}
+use Rattle.std.proofs.Common.{◌≡◌, ℕ, ◌+◌, ◌≤◌, Bool, true, false, not, ◌&&◌, nat_eq, nat_le, List, [], ◌∷◌, length, Option, Some, None, Result, Ok, Err, refl, sym, ap, ◌∙◌, subst, arith}
+use Rattle.std.specs.Prelude.{decimal, codes, IfOk}
 use Rattle.std.specs.List.{slice_get}
 use Rattle.std.specs.Cmp.Lexicographic.{pointwise, bytes_decides}
-use Rattle.std.specs.Ordering.{is_eq}
 use Rattle.std.proofs.lemmas.Bool.Decides.{nat_tests}
 use Rattle.std.proofs.lemmas.Bool.{and_parts}
-use Rattle.plan_schema.specs.declared.fault.Rule.{Rule}
-use Rattle.plan_schema.specs.declared.fault.Rule.TheVariants as rule
 use Rattle.plan_schema.specs.declared.fault.FieldFault.{FieldFault}
 use Rattle.plan_schema.specs.declared.key.Key.{Key}
 use Rattle.plan_schema.specs.declared.key.Key.TheVariants as keys
 use Rattle.plan_schema.specs.declared.key.Span.{Span}
-use Rattle.plan_schema.specs.declared.key.Lot.{Lot}
 use Rattle.plan_schema.specs.declared.key.Record.{Record}
 use Rattle.plan_schema.specs.declared.key.Record.TheVariants as records
 use Rattle.plan_schema.specs.Name.{is_name}
-use Rattle.plan_schema.specs.Day.{is_day, day_text, day_of}
-use Rattle.plan_schema.specs.Key.{name_eq, key_eq}
-use Rattle.plan_schema.specs.Sound.{is_sound_key, is_sound_row, is_within, is_sound_span, span_has_days, is_sound_lot, is_quantity, calendar_is_name, key_has_names, record_has_names, are_apart}
+use Rattle.plan_schema.specs.Day.{is_day, day_text}
+use Rattle.plan_schema.specs.Key.{name_eq}
+use Rattle.plan_schema.specs.Sound.{is_sound_key, is_sound_row, is_within, is_sound_lot, is_quantity, key_has_names, record_has_names, are_apart}
 use Rattle.plan_schema.proofs.DayLaws.{day_read_again}
-use Rattle.row_text.specs.Number.{number_of}
-use Rattle.row_text.specs.Row.{◌>>=◌, at_field, text_at, end_at, name_in, name_at, number_at, day_at, component_at, to_at, days_of_span, span_at, days_at, plan_of, week_at, cal_of, holiday_of, lot_at, calendar_at, part_of, stock_of, demand_of, receipt_of, bill_of, row_of_table, row_of, one_name, two_names, holiday_key_of, bill_key_of, key_of_table, key_of}
+use Rattle.row_text.specs.Row.{text_at, end_at, name_in, name_at, number_at, day_at, component_at, to_at, days_of_span, span_at, days_at, plan_of, week_at, cal_of, holiday_of, lot_at, calendar_at, part_of, stock_of, demand_of, receipt_of, bill_of, row_of_table, row_of}
 use Rattle.row_text.specs.Spelling.{row_fields, key_fields, record_fields, span_fields, lot_text, week_text, calendar_text}
-use Rattle.row_text.proofs.Fields.{and_true, le_true, bind_ok, chosen_ok, text_at_ok, name_at_takes, number_at_takes, number_again, day_at_takes, end_at_takes, component_at_takes, apart, fields_are, AreGiven}
+use Rattle.row_text.proofs.Fields.{and_true, le_true, bind_ok, chosen_ok, text_at_ok, name_at_takes, number_at_takes, number_again, day_at_takes, end_at_takes, component_at_takes, apart, fields_are}
 use Rattle.row_text.proofs.Lots.{chosen_from, lot_at_takes, lot_again, week_at_takes, week_again, calendar_at_takes, calendar_again}
 
 abbrev Rows : Type 0

@@ -1,11 +1,10 @@
 -- The tables that the program accepts: bills aren't served yet, so their table word counts as unknown.
-use Rattle.std.specs.Prelude.{ℕ, Bool, true, false, nat_eq, List, Option, Some, None, Result, Err, if◌then◌else◌, codes}
+use Rattle.std.specs.Prelude.{ℕ, Bool, false, nat_eq, List, Option, Some, None, Result, Err, if◌then◌else◌, codes}
 use Rattle.std.specs.List.{slice_get}
 use Rattle.std.specs.Cmp.Lexicographic.{pointwise}
 use Rattle.plan_schema.specs.declared.fault.Rule.TheVariants.{Shape}
 use Rattle.plan_schema.specs.declared.fault.FieldFault.{FieldFault}
 use Rattle.plan_schema.specs.declared.key.Key.{Key}
-use Rattle.plan_schema.specs.declared.key.Key.TheVariants as keys
 use Rattle.plan_schema.specs.declared.key.Record.{Record}
 use Rattle.row_text.specs.Row.{row_of}
 

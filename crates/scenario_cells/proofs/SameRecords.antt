@@ -28,6 +28,7 @@ lots_same lot.Exact lot.Exact = refl
 lots_same (lot.Fixed q) (lot.Fixed r) = refl
 lots_same (lot.Least l s) (lot.Least m t) = refl
 lots_same (lot.Period d) (lot.Period e) = refl
+lots_same (lot.Best p h) (lot.Best q i) = refl
 lots_same _ _ = refl
 
 names_same : (a b : Option Name) → option_eq (pointwise nat_eq) a b ≡ same_option name_eq a b

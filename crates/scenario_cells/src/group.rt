@@ -48,6 +48,14 @@ pub fn count_parts(records: &Contents) -> usize
     count
 }
 
+/// Whether a name is the root's.
+pub fn is_root(name: &Name) -> bool
+    ensures { result ≡ world.is_root name.now }
+{
+    name.as_bytes() == ROOT
+}
+
+/// The name of the root.
 pub fn root_name() -> Option<Name>
     ensures { IfSome result (λ name. name ≡ world.root) }
 {

@@ -1,6 +1,6 @@
 //! A scenario in memory, and what changes of its records make of it.
 ghost use Rattle.scenario_rules.specs.Steps.{all_put};
-ghost use Rattle.std.specs.Prelude.{◌<◌, length, ◌≡◌, [], ◌∷◌, IfOk, OnOk, if◌then◌else◌};
+ghost use Rattle.std.specs.Prelude.{◌<◌, length, ◌≡◌, [], ◌∷◌, IfOk, OnErr, OnOk, if◌then◌else◌};
 ghost use Rattle.std.specs.BTreeMap.{insert_entry};
 ghost use Rattle.plan_schema.specs.Key.{key_cmp};
 ghost use Rattle.plan_schema.specs.Base.{is_part_key};
@@ -30,19 +30,21 @@ pub struct Held {
     pub records: usize,
 }
 
-/// The scenario with a record put under a key, or taken away.
-pub fn changed_row(
+/// Puts a record under a key of the scenario, or takes it away. The list of own changes is changed in place where nobody shares it;
+/// that of ids is copied, since nothing may change where there is no memory for both.
+pub fn change_row(
     alloc: Global,
-    held: &Held,
+    held: &mut Held,
     store: &mut Store,
     point: u64,
     root: bool,
     key: &Key,
     value: &Option<Record>,
-) -> Result<Held, AllocError>
-    requires held { IsHeld (cell_at store.old) held.now }
-    requires ready { IsReady point root held.now }
-    ensures changed { IfOk result (λ new. IsChanged point root ((key.now, value.now) ∷ []) (cell_at store.old) (cell_at store.new) held.now new) }
+) -> Result<(), AllocError>
+    requires held { IsHeld (cell_at store.old) held.old }
+    requires ready { IsReady point root held.old }
+    ensures changed { OnOk result (IsChanged point root ((key.now, value.now) ∷ []) (cell_at store.old) (cell_at store.new) held.old held.new) }
+    ensures err { OnErr result (held.new ≡ held.old) }
     ensures keeps { KeepsOlder point store.old store.new }
 {
     let had = row(&held.ids, store, key).is_some();
@@ -50,19 +52,14 @@ pub fn changed_row(
     let records = recount(held.records, had, has)?;
     let part = is_part(key);
     let parts = recount_if(part, held.parts, had, has)?;
-    let own = own_after(alloc, &held.own, root, key, value)?;
     let ids = put_row(alloc, &held.ids, store, point, key, value)?;
     let base = either(root, &ids, &held.base)?;
-    Ok(Held {
-        parent: held.parent,
-        owner: held.owner,
-        private: held.private,
-        base,
-        ids,
-        own,
-        parts,
-        records,
-    })
+    add_own(alloc, &mut held.own, root, key, value)?;
+    held.base = base;
+    held.ids = ids;
+    held.parts = parts;
+    held.records = records;
+    Ok(())
 }
 
 /// The scenario with rows put one after another.
@@ -144,21 +141,23 @@ fn load_row(
     let records = recount(loaded.records, had, has)?;
     let part = is_part(key);
     let parts = recount_if(part, loaded.parts, had, has)?;
-    load_own(alloc, &mut loaded.own, root, key, value)?;
+    add_own(alloc, &mut loaded.own, root, key, value)?;
     put_row_in(alloc, &mut loaded.ids, store, point, key, value)?;
     loaded.parts = parts;
     loaded.records = records;
     Ok(())
 }
 
-fn load_own(
+/// Puts one own change more, in place: the root has none.
+fn add_own(
     alloc: Global,
     own: &mut Tree<Key, Option<Record>>,
     root: bool,
     key: &Key,
     value: &Option<Record>,
 ) -> Result<(), AllocError>
-    ensures { OnOk result (own.new ≡ (if root then own.old else insert_entry key_cmp own.old key.now value.now)) }
+    ensures ok { OnOk result (own.new ≡ (if root then own.old else insert_entry key_cmp own.old key.now value.now)) }
+    ensures err { OnErr result (own.new ≡ own.old) }
 {
     if root {
         return Ok(());
@@ -166,24 +165,6 @@ fn load_own(
     let value = Arc::new(alloc, *value)?;
     own.put(*key, value)?;
     Ok(())
-}
-
-/// The own changes after one more: the root has none.
-fn own_after(
-    alloc: Global,
-    own: &Tree<Key, Option<Record>>,
-    root: bool,
-    key: &Key,
-    value: &Option<Record>,
-) -> Result<Tree<Key, Option<Record>>, AllocError>
-    ensures { IfOk result (λ new. new ≡ (if root then own.now else insert_entry key_cmp own.now key.now value.now)) }
-{
-    if root {
-        return own.share();
-    }
-    let value = Arc::new(alloc, *value)?;
-    let new = own.with(*key, value)?;
-    Ok(new)
 }
 
 /// One of two lists of ids.

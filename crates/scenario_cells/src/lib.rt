@@ -10,8 +10,8 @@ mod room;
 mod rows;
 
 pub use conflicts::conflict;
-pub use group::{Grouped, count_parts, regroup, root_held, root_name};
-pub use held::{Held, changed_row, changed_rows};
+pub use group::{Grouped, count_parts, is_root, regroup, root_held, root_name};
+pub use held::{Held, change_row, changed_rows};
 pub use laid::{Laid, based, branched, given, lay_all, settled, shared};
 pub use room::{one_room, own_room, rows_room};
 pub use rows::row;

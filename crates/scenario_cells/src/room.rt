@@ -16,15 +16,10 @@ ghost use Rattle.scenario_cells.specs.Room.{refused_counts, refused_contents, ne
 
 use crate::held::{Held, is_part};
 use crate::rows::row;
+use plan_schema::limits::{PART_LIMIT, RECORD_LIMIT};
 use plan_schema::{Key, Record, Refusal, Room};
 use record_versions::Store;
 use std::cmp::Ordering;
-
-/// The most parts of a scenario.
-const PART_LIMIT: usize = 10_000;
-
-/// The most records of a scenario.
-const RECORD_LIMIT: usize = 200_000;
 
 /// How many of the changes so far found a part or a row under their keys, and how many left one there.
 #[derive(Drop)]

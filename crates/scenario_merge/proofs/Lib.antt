@@ -1,4 +1,5 @@
 pub mod ForestLaws
+pub mod Written
 pub mod MergeLaws
 pub mod ReadLaws
 pub mod CommitLaws

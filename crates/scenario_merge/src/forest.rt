@@ -26,7 +26,7 @@ use crate::tree::{access, is_root};
 use plan_schema::{Change, Contents, Key, Name, Record, Refusal};
 use record_versions::{IdSet, Ids, Store};
 use scenario_cells::{
-    Held, based, branched, changed_row, changed_rows, count_parts, given, lay_all, regroup,
+    Held, based, branched, change_row, changed_rows, count_parts, given, lay_all, regroup,
     root_held, root_name, settled, shared,
 };
 use std::alloc::{AllocError, Global};
@@ -242,13 +242,11 @@ impl Forest {
         ensures ok { OnOk result (IsAfterChanges point name.now ((key.now, value.now) ∷ []) self.old self.new) }
         ensures err { OnErr result (IsAsBefore self.old self.new) }
     {
-        let Some(held) = self.scenarios.get(name) else {
+        let Some(held) = self.scenarios.get_mut(name) else {
             return Err(AllocError);
         };
         let root = is_root(name);
-        let new = changed_row(self.alloc, held, &mut self.store, point, root, key, value)?;
-        put_in(&mut self.scenarios, name, new)?;
-        Ok(())
+        change_row(self.alloc, held, &mut self.store, point, root, key, value)
     }
 
     // Puts rows one after another, of which there is one at least.

@@ -99,7 +99,10 @@ step_below point w ids (changes.Drop s) h = set_below (suc point) ids s no_ids h
 later_older : (point : ℕ) (ids : WorldIds) → AreOlder point ids → AreOlder (suc point) ids
 later_older point ids h = record { base = λ s. later_below point (ids s).base (h.base s); contents = λ s. later_below point (ids s).contents (h.contents s) }
 
--- after more entries
+-- after one more entry, and after more
+pub next_older : (point : ℕ) (w : World) (ids : WorldIds) (change : Change) → AreOlder point ids → AreOlder (suc point) (step_ids point w ids change)
+next_older point w ids change h = step_below point w ids change (later_older point ids h)
+
 rest_older : (v : Versioned) (history : List Entry) → AreOlder (suc v.point) v.ids → AreOlder (suc (v.point + length history)) (fold next_versioned v history).ids
 rest_older v [] h =
     let same : v.point ≡ v.point + length {A = Entry} [] = omega arith in
@@ -108,9 +111,9 @@ rest_older v (entry ∷ rest) h =
     let next = next_versioned v entry in
     let same : suc v.point + length rest ≡ v.point + length (entry ∷ rest) = omega arith in
     subst (λ n. AreOlder (suc n) (fold next_versioned next rest).ids) same
-    (rest_older next rest (step_below (suc v.point) v.world v.ids entry.change (later_older (suc v.point) v.ids h)))
+    (rest_older next rest (next_older (suc v.point) v.world v.ids entry.change h))
 
-begin_older : (base : Contents) → AreOlder 1 (begin_versioned base).ids
+pub begin_older : (base : Contents) → AreOlder 1 (begin_versioned base).ids
 begin_older base =
     set_below 1 (λ name. no_ids) root (record { base = renewed 0 base; contents = renewed 0 base }) (record { base = λ s. none_below 1; contents = λ s. none_below 1 })
     (renewed_below 0 base) (renewed_below 0 base)

@@ -22,7 +22,7 @@ returns-clause-loaded c = λ h held ready.
     let value = c.args.value.now in
     let with = held_with c.args.root h l in
     let had = c.is_some-had.ensures ∙ copied_some c.row.result ∙ ap is_some (c.row.ensures ∙ record_is cells with key held) in
-    row_loaded cells c.put_row_in.new.store c.args.point c.args.root h l key value c.put_row_in.new.ids c.load_own.new.own c.in_ok-parts.parts c.in_ok-records.records held ready
-    c.in_ok-put_row_in.ensures.ids c.in_ok-put_row_in.ensures.store c.in_ok-load_own.ensures
+    row_loaded cells c.put_row_in.new.store c.args.point c.args.root h l key value c.put_row_in.new.ids c.add_own.new.own c.in_ok-parts.parts c.in_ok-records.records held ready
+    c.in_ok-put_row_in.ensures.ids c.in_ok-put_row_in.ensures.store c.in_ok-add_own.ensures.ok
     (parts_are cells with key value c.in_ok-parts.parts c.is_some-had.result c.is_some-has.result c.is_part-part.result held had c.is_some-has.ensures c.is_part-part.ensures c.in_ok-parts.ensures)
     (records_are cells with key value c.in_ok-records.records c.is_some-had.result c.is_some-has.result held had c.is_some-has.ensures c.in_ok-records.ensures)

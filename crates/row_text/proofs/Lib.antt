@@ -4,3 +4,4 @@ pub mod Fields
 pub mod Lots
 pub mod Rows
 pub mod KeyForms
+pub mod Worked

@@ -8,8 +8,6 @@ mod lot;
 mod number;
 mod open;
 mod row;
-#[cfg(test)]
-mod tests;
 mod write;
 
 pub use field::{day_at, end_at, is_word, name_at, number_at, text_at};

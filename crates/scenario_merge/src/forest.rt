@@ -22,11 +22,11 @@ ghost use Rattle.scenario_merge.specs.Grown.{IsGrown, IsAfterChanges, IsAsBefore
 ghost use Rattle.scenario_merge.specs.Faults.{IsAnswered};
 
 use crate::refusals::first_refusal;
-use crate::tree::{access, is_root};
+use crate::tree::access;
 use plan_schema::{Change, Contents, Key, Name, Record, Refusal};
 use record_versions::{IdSet, Ids, Store};
 use scenario_cells::{
-    Held, based, branched, change_row, changed_rows, count_parts, given, lay_all, regroup,
+    Held, based, branched, change_row, changed_rows, count_parts, given, is_root, lay_all, regroup,
     root_held, root_name, settled, shared,
 };
 use std::alloc::{AllocError, Global};

@@ -19,19 +19,11 @@ ghost use Rattle.scenario_merge.specs.Grown.{world_by, IsForest};
 ghost use Rattle.scenario_merge.specs.Lines as lines;
 ghost use Rattle.scenario_cells.specs.Room.{refused_contents};
 
+use plan_schema::limits::{DEPTH_LIMIT, SCENARIO_LIMIT};
 use plan_schema::{Name, Refusal, Room};
-use scenario_cells::Held;
+use scenario_cells::{Held, is_root};
 use std::cmp::Ordering;
 use std::collections::BTreeMap;
-
-/// The name of the root.
-const ROOT: &[u8] = b"Baseline";
-
-/// The most scenarios above one.
-const DEPTH_LIMIT: usize = 32;
-
-/// The most scenarios, the root included.
-const SCENARIO_LIMIT: usize = 256;
 
 /// The scenarios by name.
 pub(crate) type Scenarios = BTreeMap<Name, Held>;
@@ -41,13 +33,6 @@ pub(crate) fn where_so(test: bool, refusal: Refusal) -> Option<Refusal>
     ensures { result ≡ refusals.where_so test refusal }
 {
     if test { Some(refusal) } else { None }
-}
-
-/// Whether a name is the root's.
-pub(crate) fn is_root(name: &Name) -> bool
-    ensures { result ≡ world.is_root name.now }
-{
-    name.as_bytes() == ROOT
 }
 
 /// Whether two names are one.

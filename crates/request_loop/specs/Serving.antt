@@ -4,6 +4,7 @@ use Rattle.std.specs.List.{list_any}
 use Rattle.plan_schema.specs.declared.name.Name.{Name}
 use Rattle.plan_schema.specs.declared.change.Change.{Change}
 use Rattle.plan_schema.specs.Outside.{extended}
+use Rattle.plan_schema.specs.declared.limits.TheConstants.{BYTE_LIMIT, LINE_LIMIT}
 use Rattle.plan_schema.specs.declared.outside.SinkFault.{SinkFault}
 use Rattle.plan_schema.specs.declared.outside.SinkFault.TheVariants as sinks
 use Rattle.byte_lines.specs.Lines.{lines_of, lines_from, lines_after}
@@ -24,10 +25,10 @@ use Rattle.request_loop.specs.declared.hear.Stop.{Stop}
 use Rattle.request_loop.specs.declared.hear.Stop.TheVariants as stop
 
 abbrev pub byte_limit : ℕ
-byte_limit = 1_073_741_824
+byte_limit = BYTE_LIMIT
 
 abbrev pub line_limit : ℕ
-line_limit = 1_000_000
+line_limit = LINE_LIMIT
 
 -- the lines that end within the limits
 unfoldable pub lines_within : List ℕ → List (Option (List ℕ))

@@ -65,7 +65,8 @@ impl Gathering {
     pub(crate) fn add(&mut self, number: u64, line: Option<&[u8]>)
         requires few { self.old.read < 1000 }
         requires short { IfSome (option_map (λ text. text.now) line) (λ text. length text ≤ 1024) }
-        ensures { (r : Begun) → IsGathered r self.old → IsGathered (with_row r (number, option_map (λ text. text.now) line.entry)) self.new }
+        ensures { (r : Begun) → IsGathered r self.old
+            → IsGathered (with_row r (number, option_map (λ text. text.now) line.entry)) self.new }
     {
         self.read += 1;
         let row = read_row(self.read, number, line);

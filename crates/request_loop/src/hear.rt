@@ -1,9 +1,11 @@
 //! Lines as requests: each request is handed on as soon as it is complete, and what the page holds is written before a change is.
-ghost use Rattle.std.specs.Prelude.{◌≡◌, ◌≤◌, ◌<◌, ℕ, Option, true, false, length, None, Some, Ok, Err, IfSome, IfOk, IfErr, OnOk, option_map};
+ghost use Rattle.std.specs.Prelude.{◌≡◌, ◌≤◌, ◌<◌, ℕ, Option, true, false, length, None, Some, Ok, Err};
+ghost use Rattle.std.specs.Prelude.{IfSome, IfOk, IfErr, OnOk, option_map};
 ghost use Rattle.command_words.specs.Spelling.{is_sound_command};
 ghost use Rattle.plan_schema.specs.Sound.{is_sound_change};
 ghost use Rattle.session_rules.specs.Requests as requests;
 ghost use Rattle.session_rules.specs.Requests.{Wish};
+ghost use Rattle.request_loop.specs.Exchanges.{to_make};
 ghost use Rattle.request_loop.specs.Reading.{Rows};
 ghost use Rattle.request_loop.specs.Gathered.{IsGathered, AreGathered, AreBegun, ComesTo};
 ghost use Rattle.request_loop.specs.Handed.{WriteCauses};
@@ -113,7 +115,8 @@ fn hear_row<A: Answers, K: Sink>(
     ensures begun { AreBegun rows.new }
     ensures ready { A.ready answers.now state.new }
     ensures cause { WriteCauses K.faults K.label sink.old sink.new result }
-    ensures heard { (r : Rows) → IsGathered r begun → length r.rows < r.count → requests.is_blank_line (number, option_map (λ text. text.now) line.entry) ≡ false
+    ensures heard { (r : Rows) → IsGathered r begun → length r.rows < r.count
+        → requests.is_blank_line (number, option_map (λ text. text.now) line.entry) ≡ false
         → IsHeard (A.gives answers.now) (A.stops answers.now) K.taken state.old state.new user.now user.now
             (Some r) rows.new (number, option_map (λ text. text.now) line.entry) page.old.items page.new.items sink.old sink.new result }
 {
@@ -251,10 +254,12 @@ fn answer_command<A: Answers, K: Sink>(
     ensures last { IfOk result (λ answer. answer.is_last ≡ requests.is_quit (Ok command.now)) }
     ensures ok { IfOk result (λ answer.
         IsTaken (A.gives answers.now) (A.stops answers.now) K.taken state.old state.new user.old
-            (record { line = line; wish = requests.wish_of command.now }) page.old.items page.new.items sink.old sink.new (Ok answer.reply)) }
+            (record { line = line; wish = requests.wish_of command.now })
+            page.old.items page.new.items sink.old sink.new (Ok answer.reply)) }
     ensures err { IfErr result (λ found.
         IsTaken (A.gives answers.now) (A.stops answers.now) K.taken state.old state.new user.old
-            (record { line = line; wish = requests.wish_of command.now }) page.old.items page.new.items sink.old sink.new (Err found)) }
+            (record { line = line; wish = requests.wish_of command.now })
+            page.old.items page.new.items sink.old sink.new (Err found)) }
 {
     let reply = match handed_on(answers, state, line, user, command, page, sink) {
         Ok(reply) => reply,
@@ -284,7 +289,8 @@ fn handed_on<A: Answers, K: Sink>(
     ensures ready { A.ready answers.now state.new }
     ensures cause { WriteCauses K.faults K.label sink.old sink.new result }
     ensures taken { IsTaken (A.gives answers.now) (A.stops answers.now) K.taken state.old state.new user.now
-        (record { line = line; wish = requests.wish_of command.now }) page.old.items page.new.items sink.old sink.new result }
+        (record { line = line; wish = requests.wish_of command.now })
+            page.old.items page.new.items sink.old sink.new result }
 {
     match change_of(command) {
         Some(change) => change_handed_on(answers, state, line, user, change, page, sink),
@@ -312,7 +318,8 @@ fn change_handed_on<A: Answers, K: Sink>(
     ensures ready { A.ready answers.now state.new }
     ensures cause { WriteCauses K.faults K.label sink.old sink.new result }
     ensures taken { IsTaken (A.gives answers.now) (A.stops answers.now) K.taken state.old state.new user.now
-        (record { line = line; wish = requests.Makes change }) page.old.items page.new.items sink.old sink.new result }
+        (to_make line change)
+        page.old.items page.new.items sink.old sink.new result }
 {
     if let Err(fault) = flush(page, sink) {
         return Err(Stop::Sink(fault));

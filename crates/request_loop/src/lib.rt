@@ -10,5 +10,8 @@ mod serve;
 
 pub use answers::{Answers, Why};
 pub use byte_lines::Served;
-pub use laws::chains_are_legal;
+pub use laws::{chains_are_legal, chains_are_pinned};
 pub use serve::serve_requests;
+
+#[cfg(test)]
+mod tests;

@@ -1,13 +1,12 @@
 //! The loop: an input is read piece by piece, its lines are served, and the replies are written.
 ghost use Rattle.byte_lines.specs.declared.rounds.Served.TheVariants as ends;
-ghost use Rattle.std.specs.Prelude.{◌≡◌, ◌≢◌, ◌⊎◌, ◌+◌, ◌≤◌, ◌∷◌, ◌++◌, [], ℕ, List, Option, true, false, length, None, Some, Err, IfOk, IfErr, IfSome, OnOk, OnErr, option_map};
+ghost use Rattle.std.specs.Prelude.{◌≡◌, ◌≢◌, ◌⊎◌, ◌+◌, ◌≤◌, ◌∷◌, ◌++◌, [], ℕ, List, Option, false, length};
+ghost use Rattle.std.specs.Prelude.{None, Some, Err, OnOk, option_map};
 ghost use Rattle.byte_lines.specs.Cuts.{shown};
 ghost use Rattle.byte_lines.specs.Lines.{line_of, lines_from, lines_after, no_bytes};
-ghost use Rattle.plan_schema.specs.Outside.{Rose, WriteCause};
+ghost use Rattle.plan_schema.specs.Outside.{Rose};
 ghost use Rattle.plan_schema.specs.declared.outside.SinkFault.TheVariants as sinks;
 ghost use Rattle.request_loop.specs.declared.hear.Stop.TheVariants as stop;
-ghost use Rattle.request_loop.specs.Exchanges.{Exchange};
-ghost use Rattle.request_loop.specs.Printed.{IsHeld, IsPrinted};
 ghost use Rattle.request_loop.specs.Gathered.{AreBegun};
 ghost use Rattle.request_loop.specs.Serving.{ServedMore, ServedLast, SoFar, HasServed, sink_end};
 ghost use Rattle.request_loop.specs.Handed.{WriteCauses, Ending, HasEnded};
@@ -18,6 +17,7 @@ use crate::hear::{Stop, hear};
 use byte_lines::{Cut, Cutter, Served, Sink, SinkFault, Source};
 use command_words::{Page, Reply, flush, put_reply};
 use plan_schema::Name;
+use plan_schema::limits::{BYTE_LIMIT, LINE_LIMIT};
 use std::alloc::Global;
 
 /// The lines so far: the one that is read, how many were read, how many requests they were, and who speaks.
@@ -31,12 +31,6 @@ struct Progress {
     rows: Option<Gathering>,
 }
 
-/// The most lines of a session's input.
-const LINE_LIMIT: u64 = 1_000_000;
-
-/// The most bytes of a session's input.
-const BYTE_LIMIT: u64 = 1_073_741_824;
-
 /// Who speaks before the first HELLO.
 const GUEST: &[u8] = b"guest";
 
@@ -44,7 +38,8 @@ const GUEST: &[u8] = b"guest";
 const PIECE: usize = 16_384;
 
 /// Serves a session: answers its requests to the end or to QUIT, and writes the replies. What the page holds is written before the source
-/// is read again, before a change is handed on, and at the end.
+/// is read again, before a change is handed on, where it is full, and at the end, so no reply waits while another change is entered or
+/// while the source is waited for. It always returns, and takes memory for the rows of a LOAD alone.
 pub fn serve_requests<A: Answers, S: Source, K: Sink>(
     alloc: Global,
     answers: &A,
@@ -55,7 +50,8 @@ pub fn serve_requests<A: Answers, S: Source, K: Sink>(
     requires { A.ready answers.now state.old }
     ensures ready { A.ready answers.now state.new }
     ensures cause { Ending S.faults S.label K.faults K.label source.old source.new sink.old sink.new result }
-    ensures served { HasServed (A.gives answers.now) (A.stops answers.now) state.old state.new (S.left source.old) (K.taken sink.old) (K.taken sink.new) result }
+    ensures served { HasServed (A.gives answers.now) (A.stops answers.now) state.old state.new
+        (S.left source.old) (K.taken sink.old) (K.taken sink.new) result }
 {
     let mut buffer = [0u8; PIECE];
     let Some(user) = Name::read(GUEST) else {
@@ -69,7 +65,7 @@ pub fn serve_requests<A: Answers, S: Source, K: Sink>(
         user,
         rows: None,
     };
-    let mut left = BYTE_LIMIT;
+    let mut left = BYTE_LIMIT as u64;
     'reads: loop {
         if let Err(fault) = flush(&mut page, sink) {
             return sink_fault(fault);
@@ -147,8 +143,12 @@ fn serve_piece<A: Answers, K: Sink>(
     ensures ready { A.ready answers.now state.new }
     ensures cause { WriteCauses K.faults K.label sink.old sink.new result }
     ensures served { (old : A.State) (input rest : List ℕ) (before : Option (List ℕ))
-        → SoFar (A.gives answers.now) (A.stops answers.now) old state.old input (lines_after progress.old.cutter.kept (piece.now ++ rest)) progress.old.lines progress.old.requests progress.old.user progress.old.rows page.old.items before (K.taken sink.old)
-        → ServedMore (A.gives answers.now) (A.stops answers.now) old state.new input (lines_after progress.new.cutter.kept rest) progress.new.lines progress.new.requests progress.new.user progress.new.rows page.new.items before (K.taken sink.new) result }
+        → SoFar (A.gives answers.now) (A.stops answers.now) old state.old input
+            (lines_after progress.old.cutter.kept (piece.now ++ rest)) progress.old.lines progress.old.requests progress.old.user
+            progress.old.rows page.old.items before (K.taken sink.old)
+        → ServedMore (A.gives answers.now) (A.stops answers.now) old state.new input
+            (lines_after progress.new.cutter.kept rest) progress.new.lines progress.new.requests progress.new.user
+            progress.new.rows page.new.items before (K.taken sink.new) result }
 {
     let mut done = 0;
     while done < piece.len() {
@@ -179,8 +179,12 @@ fn serve_last<A: Answers, K: Sink>(
     ensures ready { A.ready answers.now state.new }
     ensures cause { WriteCauses K.faults K.label sink.old sink.new result }
     ensures served { (old : A.State) (input : List ℕ) (before : Option (List ℕ))
-        → SoFar (A.gives answers.now) (A.stops answers.now) old state.old input (lines_after progress.old.cutter.kept []) progress.old.lines progress.old.requests progress.old.user progress.old.rows page.old.items before (K.taken sink.old)
-        → ServedMore (A.gives answers.now) (A.stops answers.now) old state.new input [] progress.new.lines progress.new.requests progress.new.user progress.new.rows page.new.items before (K.taken sink.new) result }
+        → SoFar (A.gives answers.now) (A.stops answers.now) old state.old input
+            (lines_after progress.old.cutter.kept []) progress.old.lines progress.old.requests progress.old.user
+            progress.old.rows page.old.items before (K.taken sink.old)
+        → ServedMore (A.gives answers.now) (A.stops answers.now) old state.new input
+            [] progress.new.lines progress.new.requests progress.new.user
+            progress.new.rows page.new.items before (K.taken sink.new) result }
 {
     if progress.cutter.is_empty() {
         return Ok(());
@@ -203,8 +207,11 @@ fn serve_rest<A: Answers, K: Sink>(
     ensures ready { A.ready answers.now state.new }
     ensures cause { WriteCauses K.faults K.label sink.old sink.new result }
     ensures served { (old : A.State) (input : List ℕ) (before : Option (List ℕ))
-        → SoFar (A.gives answers.now) (A.stops answers.now) old state.old input (lines_after progress.old.cutter.kept []) progress.old.lines progress.old.requests progress.old.user progress.old.rows page.old.items before (K.taken sink.old)
-        → ServedLast (A.gives answers.now) (A.stops answers.now) old state.new input progress.new.lines progress.new.requests progress.new.user page.new.items before (K.taken sink.new) result }
+        → SoFar (A.gives answers.now) (A.stops answers.now) old state.old input
+            (lines_after progress.old.cutter.kept []) progress.old.lines progress.old.requests progress.old.user
+            progress.old.rows page.old.items before (K.taken sink.old)
+        → ServedLast (A.gives answers.now) (A.stops answers.now) old state.new input
+            progress.new.lines progress.new.requests progress.new.user page.new.items before (K.taken sink.new) result }
 {
     match serve_last(alloc, answers, state, progress, page, sink) {
         Ok(()) => serve_left_over(answers, state, progress, page, sink),
@@ -225,8 +232,11 @@ fn serve_left_over<A: Answers, K: Sink>(
     ensures going { result ≢ Err stop.Quit }
     ensures cause { WriteCauses K.faults K.label sink.old sink.new result }
     ensures served { (old : A.State) (input : List ℕ) (before : Option (List ℕ))
-        → SoFar (A.gives _answers.now) (A.stops _answers.now) old _state.now input [] progress.old.lines progress.old.requests progress.old.user progress.old.rows page.old.items before (K.taken sink.old)
-        → ServedLast (A.gives _answers.now) (A.stops _answers.now) old _state.now input progress.new.lines progress.new.requests progress.new.user page.new.items before (K.taken sink.new) result }
+        → SoFar (A.gives _answers.now) (A.stops _answers.now) old _state.now input
+            [] progress.old.lines progress.old.requests progress.old.user
+            progress.old.rows page.old.items before (K.taken sink.old)
+        → ServedLast (A.gives _answers.now) (A.stops _answers.now) old _state.now input
+            progress.new.lines progress.new.requests progress.new.user page.new.items before (K.taken sink.new) result }
 {
     let Some(begun) = progress.rows.take() else {
         return Ok(());
@@ -259,8 +269,12 @@ fn serve_line<A: Answers, K: Sink>(
     ensures ready { A.ready answers.now state.new }
     ensures cause { WriteCauses K.faults K.label sink.old sink.new result }
     ensures served { (old : A.State) (input : List ℕ) (left : List (Option (List ℕ))) (before : Option (List ℕ))
-        → SoFar (A.gives answers.now) (A.stops answers.now) old state.old input (line_of progress.old.cutter.kept ∷ left) progress.old.lines progress.old.requests progress.old.user progress.old.rows page.old.items before (K.taken sink.old)
-        → ServedMore (A.gives answers.now) (A.stops answers.now) old state.new input left progress.new.lines progress.new.requests progress.new.user progress.new.rows page.new.items before (K.taken sink.new) result }
+        → SoFar (A.gives answers.now) (A.stops answers.now) old state.old input
+            (line_of progress.old.cutter.kept ∷ left) progress.old.lines progress.old.requests progress.old.user
+            progress.old.rows page.old.items before (K.taken sink.old)
+        → ServedMore (A.gives answers.now) (A.stops answers.now) old state.new input
+            left progress.new.lines progress.new.requests progress.new.user
+            progress.new.rows page.new.items before (K.taken sink.new) result }
 {
     if progress.lines >= LINE_LIMIT {
         return Err(Stop::Limit);

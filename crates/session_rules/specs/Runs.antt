@@ -29,6 +29,13 @@ abbrev pub accepted_points : List Request → List Reply → List ℕ
 accepted_points (request ∷ requests) (reply ∷ more) = accepted_point request.wish reply ++ accepted_points requests more
 accepted_points requests more = []
 
+-- each point that is printed is the number of entries behind its request: so many before the first, and one for each change that was
+-- accepted since
+abbrev pub ArePinned : ℕ → List Request → List Reply → Type 0
+ArePinned count (request ∷ requests) (reply ∷ more) =
+    let then = count + length (accepted_point request.wish reply) in (point_after then reply ≡ then) × ArePinned then requests more
+ArePinned count requests more = Unit {0}
+
 -- the entry that an accepted change becomes
 abbrev pub accepted_entry : ℕ → ℕ → Name → Wish → Reply → List Entry
 accepted_entry session line user (Makes change) (replies.Ok point) = record { session = session; line = line; user = user; change = change } ∷ []

@@ -1,4 +1,4 @@
--- A request that was handed on.
+-- What is written before a request is handed on, and when a session ends.
 use Rattle.std.specs.Prelude.{◌≡◌, ◌⊎◌, ℕ, ◌≤◌, List, [], Option, Result, Ok, Err}
 use Rattle.plan_schema.specs.declared.name.Name.{Name}
 use Rattle.plan_schema.specs.declared.change.Change.{Change}

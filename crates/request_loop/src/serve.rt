@@ -219,7 +219,8 @@ fn serve_rest<A: Answers, K: Sink>(
     }
 }
 
-/// Answers a LOAD whose last rows are missing, where one was begun.
+/// Answers a LOAD whose last rows are missing, where one was begun. Contracts alone speak of the answerer and its state: nothing is
+/// handed on.
 fn serve_left_over<A: Answers, K: Sink>(
     _answers: &A,
     _state: &A::State,

@@ -19,7 +19,7 @@ pub enum Served {
     WriteFault,
     /// The input is longer than a session's input may be.
     Limit,
-    /// The numbers of sessions are used up.
+    /// The tickets are used up, so nobody gets a turn any more.
     Worn,
     /// The journal failed.
     BookFault,

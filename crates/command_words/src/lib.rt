@@ -25,4 +25,4 @@ pub use plan_schema::CellName;
 pub use query::QueryText;
 pub use read::{Words, read_line, read_row, words_in};
 pub use reply::{Bad, Reply};
-pub use write::{room_bytes, rule_bytes, write_reply};
+pub use write::{put_reply, room_bytes, rule_bytes, write_reply};

@@ -26,7 +26,7 @@ pub fn write_reply<S: Sink>(reply: &Reply, sink: &mut S) -> Result<(), SinkFault
 
 /// Adds the text of a reply.
 #[tactic(auto, unfolding(crate::specs::Replies::reply_text))]
-fn put_reply<S: Sink>(page: &mut Page, reply: &Reply, sink: &mut S) -> Result<(), SinkFault>
+pub fn put_reply<S: Sink>(page: &mut Page, reply: &Reply, sink: &mut S) -> Result<(), SinkFault>
     ensures { Gathered S.taken S.faults S.label sink.old sink.new page.old.items page.new.items (reply_text reply.now) result }
 {
     put(page, head_bytes(reply).as_slice(), sink)?;

@@ -120,6 +120,8 @@ is_done old new names base input contents entries count number reads legal count
     let all = served.answered.entered in
     let none : entries_of entries 0 1 ≡ 0 = ap (λ es. entries_of es 0 1) all ∙ none_before guest requests served.given in
     let most : entries_of entries 0 2 ≡ length entries = ap (λ es. entries_of es 0 2) all ∙ all_up_to guest requests served.given ∙ ap length (sym all) in
+    let floor : 0 + entries_of entries 0 1 ≡ 0 = omega (arith, none) in
+    let ceiling : 0 + entries_of entries 0 2 ≡ length entries = omega (arith, most) in
     record {
       contents = contents;
       base_is = reads;
@@ -133,8 +135,8 @@ is_done old new names base input contents entries count number reads legal count
         history_is = legal;
         sessions = (
           (
-            subst (λ floor. IsDesk contents entries 1 floor (entries_of entries 0 2) desk) (sym none)
-                (subst (λ ceiling. IsDesk contents entries 1 0 ceiling desk) (sym most)
+            subst (λ floor. IsDesk contents entries 1 floor (0 + entries_of entries 0 2) desk) (sym floor)
+                (subst (λ ceiling. IsDesk contents entries 1 0 ceiling desk) (sym ceiling)
                 (record { legal = record { legal = served.answered.legal; text = refl }; below = below contents entries 0 guest requests served.given served.answered.legal (omega arith) })),
             tt,
           ),
@@ -143,7 +145,7 @@ is_done old new names base input contents entries count number reads legal count
         once = λ point some few.
             (let each = served.answered.numbered ∙ ap (λ es. range_with_len 1 (length es)) (sym all) in
             let there = append-nil (accepted_points requests served.given ++ []) ∙ append-nil (accepted_points requests served.given) in
-            ap (count_by (λ p. p == point)) (there ∙ each) ∙ once_in 1 (length entries) point some (omega (arith, few)));
+            ap (count_by (λ p. p == point)) (there ∙ each) ∙ once_in 1 (length entries) point (omega (arith, some)) (omega (arith, few)));
       };
       within = served.within;
     }

@@ -145,7 +145,7 @@ pub record IsDone (old new : View) (names : Names) (base input : List ℕ) (numb
   pub desk : Desk
   pub input_is : desk.input ≡ input
   pub output_is : new.held names.output ≡ Some desk.output
-  pub legal : IsRun contents entries ((desk ∷ []) ∷ [])
+  pub legal : IsRun contents [] entries ((desk ∷ []) ∷ [])
   pub within : is_past_limit input ≡ false
 
 -- the input is too long, over a base that reads to contents

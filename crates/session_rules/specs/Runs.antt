@@ -1,5 +1,5 @@
--- Legal runs: sessions in rounds over one history.
-use Rattle.std.specs.Prelude.{◌≡◌, ℕ, true, ◌+◌, ◌≤◌, ◌&&◌, nat_le, nat_lt, ◌==◌, List, [], ◌∷◌, ◌++◌, length, count_by}
+-- Legal runs: sessions in rounds over one history, behind the entries of earlier runs.
+use Rattle.std.specs.Prelude.{◌≡◌, ℕ, true, ◌+◌, ◌<◌, ◌≤◌, ◌&&◌, nat_le, nat_lt, ◌==◌, List, [], ◌∷◌, ◌++◌, length, count_by}
 use Rattle.std.specs.List.{flat_map, AllByRecursion}
 use Rattle.plan_schema.specs.declared.name.Name.{Name}
 use Rattle.plan_schema.specs.declared.change.Entry.{Entry}
@@ -28,6 +28,13 @@ accepted_point wish reply = []
 abbrev pub accepted_points : List Request → List Reply → List ℕ
 accepted_points (request ∷ requests) (reply ∷ more) = accepted_point request.wish reply ++ accepted_points requests more
 accepted_points requests more = []
+
+-- each point that is printed is the number of entries behind its request: so many before the first, and one for each change that was
+-- accepted since
+abbrev pub ArePinned : ℕ → List Request → List Reply → Type 0
+ArePinned count (request ∷ requests) (reply ∷ more) =
+    let then = count + length (accepted_point request.wish reply) in (point_after then reply ≡ then) × ArePinned then requests more
+ArePinned count requests more = Unit {0}
 
 -- the entry that an accepted change becomes
 abbrev pub accepted_entry : ℕ → ℕ → Name → Wish → Reply → List Entry
@@ -58,16 +65,24 @@ module _ (base : Contents) (history : List Entry) where
   AreDesks floor ceiling session [] = Unit {0}
   AreDesks floor ceiling session (desk ∷ desks) = IsDesk session floor ceiling desk × AreDesks floor ceiling (session + 1) desks
 
-  -- rounds, the first desk of which has the number `session`: the floor of a round is the number of entries of earlier rounds, and
-  -- its ceiling that number and the entries of the round itself
+-- numbers rise, the first of them above `low`, and none is above `high`
+abbrev pub IsRising : ℕ → List ℕ → ℕ → Type 0
+IsRising low [] high = low ≤ high
+IsRising low (n ∷ ns) high = (low < n) × IsRising n ns high
+
+-- a run behind earlier entries: the history is these, and then the entries of the run's own sessions
+module _ (base : Contents) (earlier entries : List Entry) where
+  -- rounds, the first desk of which has the number `session`: the floor of a round is the number of entries before it, the earlier ones
+  -- and those of earlier rounds, and its ceiling that number and the entries of the round itself
   abbrev pub AreRounds : ℕ → List (List Desk) → Type 0
   AreRounds session [] = Unit {0}
   AreRounds session (desks ∷ rounds) =
-      AreDesks (entries_of history 0 session) (entries_of history 0 (session + length desks)) session desks
+      AreDesks base (earlier ++ entries) (length earlier + entries_of entries 0 session) (length earlier + entries_of entries 0 (session + length desks)) session desks
       × AreRounds (session + length desks) rounds
 
-  -- a legal run: the history is legal, so is each session, and each entry is printed by exactly one accepted change
+  -- a legal run: the history is legal, so is each session, and each entry past the earlier ones is printed by exactly one accepted
+  -- change
   pub record IsRun (rounds : List (List Desk)) : Type 0 where
-    pub history_is : IsLegal base history
+    pub history_is : IsLegal base (earlier ++ entries)
     pub sessions : AreRounds 1 rounds
-    pub once : (point : ℕ) → 1 ≤ point → point ≤ length history → count_by (λ p. p == point) (accepted_in rounds) ≡ 1
+    pub once : (point : ℕ) → length earlier < point → point ≤ length (earlier ++ entries) → count_by (λ p. p == point) (accepted_in rounds) ≡ 1

@@ -19,7 +19,7 @@ use Rattle.plan_book.specs.History.{Story, history}
 use Rattle.session_rules.specs.Requests.{Line, is_blank_line, reading, Request, Wish, Asks, read_wish, requests_of, requests_of_lines, user_after, guest}
 use Rattle.session_rules.specs.Sessions.{IsReplyTo, AreReplies}
 use Rattle.session_rules.specs.Laws.{last_user}
-use Rattle.session_rules.specs.Runs.{accepted_point, accepted_points, accepted_entry, accepted_entries}
+use Rattle.session_rules.specs.Runs.{accepted_point, accepted_points, accepted_entry, accepted_entries, ArePinned}
 use Rattle.sessions.specs.Plans.{has_no_bills}
 use Rattle.sessions.specs.declared.serve.Stop.{Stop}
 use Rattle.sessions.specs.declared.serve.Stop.TheVariants as stops
@@ -87,11 +87,13 @@ asked lines = map line_request (filter (λ line. not (is_blank_line line)) (enum
 
 module _ (s : Setting) where
   -- these are legal replies to these requests at these entries, and the entries past those before the session are those of its
-  -- accepted changes, once each and in order, each at its number
+  -- accepted changes, once each and in order, each at its number; and each point that is printed is the number of entries behind its
+  -- request, so no reply speaks of what its own session enters later
   pub record HasAnswered (entries : List Entry) (requests : List Request) (given : List Reply) : Type 0 where
     pub legal : AreReplies s.may_change s.base entries s.session (length s.earlier) (length s.earlier) guest requests given
     pub entered : entries ≡ s.earlier ++ accepted_entries s.session guest requests given
     pub numbered : accepted_points requests given ≡ numbers_behind (length s.earlier) (length (accepted_entries s.session guest requests given))
+    pub pinned : ArePinned (length s.earlier) requests given
 
   -- a whole session: each of its requests, so many, has its reply, and the sink took their text
   pub record IsServed (entries : List Entry) (input : List ℕ) (before after : Option (List ℕ)) (count : ℕ) : Type 0 where

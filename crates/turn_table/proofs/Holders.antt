@@ -6,7 +6,7 @@ use Rattle.std.proofs.lemmas.Bool.Decides.{nat_tests}
 use mathlib.Core.Option.{some, none}
 use mathlib.Core.Option.{Option as Maybe}
 use lib.ListN.{get_elem?}
-use Rattle.turn_table.specs.Rule.{total, is_numbered, numbered, holds_it, begins_it, turns, Knows, FailedIsMarked, HoldsInTurn, TurnIsNumbered, CountsEnough, HoldersKept, Place, empty, filling, home, out}
+use Rattle.turn_table.specs.Rule.{fewest, total, is_numbered, numbered, holds_it, begins_it, turns, Knows, FailedIsMarked, HoldsInTurn, TurnIsNumbered, CountsEnough, HoldersKept, Place, empty, filling, home, out}
 use Rattle.turn_table.specs.Steps.{with_value, with_mark, without_value, left_seat, right_seat, merged, spent, IsIdle}
 use Rattle.turn_table.specs.declared.view.View.{View}
 use Rattle.turn_table.proofs.Sums.{sum-same, sum-snoc, sum-less, term-le, sum-joined, each-set, each-others, each-weaker, each-snoc, each-joined}
@@ -39,7 +39,7 @@ module _ {E G : Type 0} where
         failed = each-set (FailedIsMarked mark) vs id w k.failed (λ some_faults. k.failed id v at (subst (λ (n : ℕ). 0 < n) (ap (λ h. h.failures) s.holding) some_faults));
         in_turn = each-set HoldsInTurn vs id w k.in_turn held;
         numbered = each-set TurnIsNumbered vs id w k.numbered (λ busy. same ∙ given busy);
-        counts = each-set (CountsEnough (begun + mark)) vs id w k.counts (λ a b. let h = weaker a b in subst (λ n. begun + mark ≤ n) (ap (λ h. h.counted) (sym s.holding)) (k.counts id v at h.0 h.1));
+        counts = each-set (CountsEnough (fewest begun mark)) vs id w k.counts (λ a b. let h = weaker a b in subst (λ n. fewest begun mark ≤ n) (ap (λ h. h.counted) (sym s.holding)) (k.counts id v at h.0 h.1));
       }
 
   -- nothing of this is changed
@@ -55,7 +55,7 @@ module _ {E G : Type 0} where
 
   -- the value was taken out
   pub holders-taken : (first begun mark : ℕ) (root : Option G) (log : List (ℕ × E)) (faults : ℕ) (vs : List (View E G)) (id : ℕ) (v : View E G) → get_elem? vs id ≡ some v → v.tickets.in_turn ≡ true
-      → begun + mark ≤ faults → HoldersKept first begun mark root vs → HoldersKept first begun mark root (set vs id (with_value log faults v))
+      → fewest begun mark ≤ faults → HoldersKept first begun mark root vs → HoldersKept first begun mark root (set vs id (with_value log faults v))
   holders-taken first begun mark root log faults vs id v at on enough k =
       let w : View E G = with_value log faults v in
       record {
@@ -64,13 +64,13 @@ module _ {E G : Type 0} where
         failed = each-set (FailedIsMarked mark) vs id w k.failed (k.failed id v at);
         in_turn = each-set HoldsInTurn vs id w k.in_turn (λ a b. on);
         numbered = each-set TurnIsNumbered vs id w k.numbered (k.numbered id v at);
-        counts = each-set (CountsEnough (begun + mark)) vs id w k.counts (λ a b. enough);
+        counts = each-set (CountsEnough (fewest begun mark)) vs id w k.counts (λ a b. enough);
       }
 
   -- the mark was noted, and set where the turn failed
   pub holders-marked : (first begun mark after failed faults : ℕ) (root : Option G) (vs : List (View E G)) (id : ℕ) (v : View E G) → get_elem? vs id ≡ some v → v.tickets.in_turn ≡ true
       → ((j : ℕ) (u : View E G) → get_elem? vs j ≡ some u → j ≢ id → u.tickets.in_turn ≡ true → ⊥)
-      → after ≤ 1 → mark ≤ after → failed ≤ after → begun + after ≤ faults
+      → after ≤ 1 → mark ≤ after → failed ≤ after → fewest begun after ≤ faults
       → HoldersKept first begun mark root vs → HoldersKept first begun after root (set vs id (with_mark failed faults v))
   holders-marked first begun mark after failed faults root vs id v at on idle low up set_too enough k =
       let w : View E G = with_mark failed faults v in
@@ -84,7 +84,7 @@ module _ {E G : Type 0} where
             ]);
         in_turn = each-set HoldsInTurn vs id w k.in_turn (k.in_turn id v at);
         numbered = each-set TurnIsNumbered vs id w k.numbered (k.numbered id v at);
-        counts = each-others (CountsEnough (begun + after)) vs id w (λ j u there_is apart busy. absurd (idle j u there_is apart busy)) (λ a b. enough);
+        counts = each-others (CountsEnough (fewest begun after)) vs id w (λ j u there_is apart busy. absurd (idle j u there_is apart busy)) (λ a b. enough);
       }
 
   -- the value was put back
@@ -98,7 +98,7 @@ module _ {E G : Type 0} where
         failed = each-set (FailedIsMarked mark) vs id w k.failed (k.failed id v at);
         in_turn = each-set HoldsInTurn vs id w k.in_turn (λ a b. absurd (false≢true a));
         numbered = each-set TurnIsNumbered vs id w k.numbered (k.numbered id v at);
-        counts = each-set (CountsEnough (begun + mark)) vs id w k.counts (k.counts id v at);
+        counts = each-set (CountsEnough (fewest begun mark)) vs id w k.counts (k.counts id v at);
       }
 
   -- a seat is split
@@ -116,7 +116,7 @@ module _ {E G : Type 0} where
         failed = each-snoc (FailedIsMarked mark) ws r (each-set (FailedIsMarked mark) vs id l k.failed (k.failed id v at)) (λ n. absurd (omega arith));
         in_turn = each-snoc HoldsInTurn ws r (each-set HoldsInTurn vs id l k.in_turn (k.in_turn id v at)) (λ a b. absurd (false≢true a));
         numbered = each-snoc TurnIsNumbered ws r (each-set TurnIsNumbered vs id l k.numbered (k.numbered id v at)) (λ a. absurd (false≢true a));
-        counts = each-snoc (CountsEnough (begun + mark)) ws r (each-set (CountsEnough (begun + mark)) vs id l k.counts (k.counts id v at)) (λ a b. absurd (false≢true a));
+        counts = each-snoc (CountsEnough (fewest begun mark)) ws r (each-set (CountsEnough (fewest begun mark)) vs id l k.counts (k.counts id v at)) (λ a b. absurd (false≢true a));
       }
 
   -- two seats are joined
@@ -135,7 +135,7 @@ module _ {E G : Type 0} where
             (λ n. absurd (omega arith));
         in_turn = each-joined HoldsInTurn vs id other m spent k.in_turn (λ a b. absurd (false≢true (sym idle.empty ∙ a))) (λ a b. absurd (false≢true a));
         numbered = each-joined TurnIsNumbered vs id other m spent k.numbered (λ a. absurd (false≢true (sym idle.no_turn ∙ a))) (λ a. absurd (false≢true a));
-        counts = each-joined (CountsEnough (begun + mark)) vs id other m spent k.counts (λ a b. absurd (false≢true (sym idle.no_turn ∙ a))) (λ a b. absurd (false≢true a));
+        counts = each-joined (CountsEnough (fewest begun mark)) vs id other m spent k.counts (λ a b. absurd (false≢true (sym idle.no_turn ∙ a))) (λ a b. absurd (false≢true a));
       }
 
   pub some-given : (vs : List (View E G)) (id : ℕ) (v : View E G) → get_elem? vs id ≡ some v → is_numbered v ≡ true → total numbered vs ≡ 0 → ⊥
@@ -217,7 +217,7 @@ module _ {T E G : Type 0} (story : T → List (ℕ × E)) (faults : T → ℕ) (
     pub none_begins : total begins_it vs ≡ 0
 
   pub at-home : (log : List (ℕ × E)) (begun mark : ℕ) (root : Option G) (vs : List (View E G)) (homes : List (Maybe (Option T))) → (total numbered vs ≡ 0 → ⊥)
-      → (total begins_it vs ≡ 0 → total holds_it vs ≡ 0) → Places log begun mark root vs homes → AtHome log (begun + mark) root vs homes
+      → (total begins_it vs ≡ 0 → total holds_it vs ≡ 0) → Places log begun mark root vs homes → AtHome log (fewest begun mark) root vs homes
   at-home log begun mark root vs _ given free (empty z l m e c) = absurd (given z)
   at-home log begun mark root vs _ given free (filling z l m e c) = absurd (given z)
   at-home log begun mark root vs _ given free (home x h f g e c) = record { value = x; there_is = refl; history = h; enough = f; basis_is = g; none_holds = e; none_begins = c }

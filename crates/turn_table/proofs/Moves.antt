@@ -9,7 +9,7 @@ use lib.ListN.{get_elem?}
 use Rattle.atomic_table.specs.Table.{State, Act, Allows, Splits, Joins, Valid, keeps, takes, gives, step, homes_after, carried_after}
 use Rattle.atomic_table.proofs.Lists.{set_again}
 use Rattle.turn_table.specs.Story.{Added}
-use Rattle.turn_table.specs.Rule.{most, total, times, listed, is_numbered, is_late, has_ticket, has, holds_it, begins_it, StoryKept, Place, Kept, home, out}
+use Rattle.turn_table.specs.Rule.{fewest, most, total, times, listed, is_numbered, is_late, has_ticket, has, holds_it, begins_it, StoryKept, Place, Kept, home, out}
 use Rattle.turn_table.specs.Steps.{Seated, with_ticket, at_turn, with_value, with_mark, without_value, after_turn, with_spare, left_seat, right_seat, merged, spent, IsIdle, IsHolder, MayTake, MayWait, KnowsAll, IsRight, IsStoryFor, AreFaultsFor, IsTicketFor, Drew, Looked, Leaves, Numbered, Compared, Took, Marked, Gave}
 use Rattle.turn_table.specs.declared.view.View.{View}
 use Rattle.turn_table.proofs.Sums.{sum-set, sum-only, term-le, other-at}
@@ -190,7 +190,7 @@ module _ {T E G : Type 0} (story : T → List (ℕ × E)) (faults : T → ℕ) (
 
   -- note the story and take the value out
   take-keeps : (s : State (Option T) (View E G)) (id : ℕ) (v : View E G) (k : K s) → get_elem? s.views id ≡ some v → MayTake v
-      → (h : AtHome story faults basis k.log (k.begun + k.mark) k.root s.views s.homes)
+      → (h : AtHome story faults basis k.log (fewest k.begun k.mark) k.root s.views s.homes)
       → K (at_words k.numbers k.tickets k.served k.entries k.mark (none ∷ []) (set s.views id (with_value (story h.value) (faults h.value) v)))
   take-keeps s id v k at may h =
       let w : View E G = with_value (story h.value) (faults h.value) v in
@@ -223,7 +223,7 @@ module _ {T E G : Type 0} (story : T → List (ℕ × E)) (faults : T → ℕ) (
         others = λ all x none_there. k.history.later x (others-later k.numbers s.views id v at all k.names x none_there);
       }
 
-  faults-for : (s : State (Option T) (View E G)) (id : ℕ) (v : View E G) (k : K s) → get_elem? s.views id ≡ some v → is_numbered v ≡ true → (n : ℕ) → k.begun + k.mark ≤ n → AreFaultsFor v n
+  faults-for : (s : State (Option T) (View E G)) (id : ℕ) (v : View E G) (k : K s) → get_elem? s.views id ≡ some v → is_numbered v ≡ true → (n : ℕ) → fewest k.begun k.mark ≤ n → AreFaultsFor v n
   faults-for s id v k at given n enough =
       let b : v.holding.begun ≡ k.begun = (k.holders.knows id v at given).begun_is in
       record {
@@ -268,14 +268,14 @@ module _ {T E G : Type 0} (story : T → List (ℕ × E)) (faults : T → ℕ) (
       is-out story faults basis k.log k.begun k.mark k.root s.views s.homes (some-given s.views id v at given) (omega arith) k.place
 
   -- note the mark, and set it where the turn failed
-  mark-keeps : (s : State (Option T) (View E G)) (id : ℕ) (v : View E G) (k : K s) (failed n : ℕ) → get_elem? s.views id ≡ some v → is_numbered v ≡ true → IsHolder v → failed ≤ 1 → v.holding.counted + failed ≤ n
+  mark-keeps : (s : State (Option T) (View E G)) (id : ℕ) (v : View E G) (k : K s) (failed n : ℕ) → get_elem? s.views id ≡ some v → is_numbered v ≡ true → IsHolder v → failed ≤ 1 → fewest v.holding.counted failed ≤ n
       → K (at_words k.numbers k.tickets k.served k.entries (bit_or k.mark failed) s.homes (set s.views id (with_mark failed n v)))
   mark-keeps s id v k failed n at given may bit enough =
       let w : View E G = with_mark failed n v in
       let b = or-bits k.mark failed k.holders.mark_is bit in
       let idle = λ (j : ℕ) (u : View E G) (there_is : get_elem? s.views j ≡ some u) (apart : j ≢ id). other-idle first k.numbers k.tickets k.served s.views id j v u k.queue at may.in_turn there_is apart in
       let o = out-with s id v k at given may.full in
-      let counted : k.begun + k.mark ≤ v.holding.counted = k.holders.counts id v at may.in_turn may.noted in
+      let counted : fewest k.begun k.mark ≤ v.holding.counted = k.holders.counts id v at may.in_turn may.noted in
       let few = b.few in
       record {
         numbers = k.numbers;
@@ -299,7 +299,7 @@ module _ {T E G : Type 0} (story : T → List (ℕ × E)) (faults : T → ℕ) (
   slot-value : (x y : T) → ◌≡◌ {A = List (ℕ × Option T)} ((0, Some y) ∷ []) ((0, Some x) ∷ []) → y ≡ x
   slot-value x y e = let slot : ◌≡◌ {A = Option T} (Some y) (Some x) = ap (λ (l : List (ℕ × Option T)). (get_or l 0 (0, None)).1) e in cc
 
-  pub mark-moves : (slots id : ℕ) (v : View E G) (y : T) (failed : ℕ) → is_numbered v ≡ true → IsHolder v → failed ≤ 1 → v.holding.counted + failed ≤ faults y
+  pub mark-moves : (slots id : ℕ) (v : View E G) (y : T) (failed : ℕ) → is_numbered v ≡ true → IsHolder v → failed ≤ 1 → fewest v.holding.counted failed ≤ faults y
       → Allows K slots id (v, (0, Some y) ∷ []) 4 (λ n. bit_or n failed) (Marked story faults basis (step slots 4 failed 0 none) (v, (0, Some y) ∷ []))
   mark-moves slots id v y failed given may bit enough s k len at bound =
       let m : Seated T E G = (v, (0, Some y) ∷ []) in
@@ -328,7 +328,7 @@ module _ {T E G : Type 0} (story : T → List (ℕ × E)) (faults : T → ℕ) (
       let once = number-once k.numbers s.views id v at n (omega arith) k.names in
       let alone : times n (listed v.numbers.spare ++ map (λ j. j.0) v.numbers.joined) ≡ 0 = let t = once.1 in omega arith in
       let idle = λ (j : ℕ) (u : View E G) (there_is : get_elem? s.views j ≡ some u) (apart : j ≢ id). other-idle first k.numbers k.tickets k.served s.views id j v u k.queue at may.in_turn there_is apart in
-      let counted : k.begun + k.mark ≤ v.holding.counted = k.holders.counts id v at may.in_turn may.noted in
+      let counted : fewest k.begun k.mark ≤ v.holding.counted = k.holders.counts id v at may.in_turn may.noted in
       record {
         numbers = k.numbers;
         tickets = k.tickets;

@@ -7,7 +7,7 @@ use mathlib.Core.Option.{some, none, Option as Maybe}
 use lib.ListN.{get_elem?}
 use Rattle.atomic_table.specs.Table.{State, Act, Allows, Valid, takes, gives, homes_after, carried_after}
 use Rattle.turn_table.specs.Story.{entries_of}
-use Rattle.turn_table.specs.Rule.{most, total, is_numbered, numbered, holds_it, begins_it, TicketBelow, TurnIsServed, OnlyNumberedDraw, TicketsKept, FirstSplits, NumbersKept, Reads, NotedAll, StoryKept, Knows, FailedIsMarked, HoldsInTurn, TurnIsNumbered, CountsEnough, HoldersKept, Place, empty, filling, home, out, Kept}
+use Rattle.turn_table.specs.Rule.{fewest, most, total, is_numbered, numbered, holds_it, begins_it, TicketBelow, TurnIsServed, OnlyNumberedDraw, TicketsKept, FirstSplits, NumbersKept, Reads, NotedAll, StoryKept, Knows, FailedIsMarked, HoldsInTurn, TurnIsNumbered, CountsEnough, HoldersKept, Place, empty, filling, home, out, Kept}
 use Rattle.turn_table.specs.Steps.{Seated, beginner, opener, starter, Opened, Started}
 use Rattle.turn_table.specs.declared.view.View.{View}
 use Rattle.turn_table.proofs.Sums.{sum-set, sum-le, term-le, two-le, each-set, each-others, each-one}
@@ -136,7 +136,7 @@ module _ {T E G : Type 0} (story : T → List (ℕ × E)) (faults : T → ℕ) (
         failed = each-set (FailedIsMarked mark) vs id w k.failed (λ n. absurd (omega arith));
         in_turn = each-set HoldsInTurn vs id w k.in_turn (λ a b. absurd (false≢true (sym b)));
         numbered = each-set TurnIsNumbered vs id w k.numbered (λ a. absurd (false≢true a));
-        counts = each-set (CountsEnough (begun + mark)) vs id w k.counts (λ a b. absurd (false≢true a));
+        counts = each-set (CountsEnough (fewest begun mark)) vs id w k.counts (λ a b. absurd (false≢true a));
       }
 
   open-keeps : (s : State (Option T) (View E G)) (id : ℕ) (k : K s) → get_elem? s.views id ≡ some (beginner first) → IsEmpty k.log k.mark s.views s.homes (some None ∷ [])
@@ -200,7 +200,7 @@ module _ {T E G : Type 0} (story : T → List (ℕ × E)) (faults : T → ℕ) (
         failed = each-set (FailedIsMarked mark) vs id w k.failed (λ n. absurd (omega arith));
         in_turn = each-set HoldsInTurn vs id w k.in_turn (λ a b. absurd (false≢true a));
         numbered = each-set TurnIsNumbered vs id w k.numbered (λ a. absurd (false≢true a));
-        counts = each-others (CountsEnough (n + mark)) vs id w (λ j u there_is apart busy. absurd (no-number vs j u z there_is (k.numbered j u there_is busy))) (λ a b. absurd (false≢true a));
+        counts = each-others (CountsEnough (fewest n mark)) vs id w (λ j u there_is apart busy. absurd (no-number vs j u z there_is (k.numbered j u there_is busy))) (λ a b. absurd (false≢true a));
       }
 
   none-hold : (begun mark n : ℕ) (root : Option G) (g : G) (vs : List (View E G)) (id : ℕ) → get_elem? vs id ≡ some (opener first) → total numbered vs ≡ 0 → total begins_it vs ≡ 1

@@ -1,9 +1,9 @@
 -- What a pass knows, what the calls of a turn do to it, and what they tell.
-use Rattle.std.specs.Prelude.{◌≡◌, ℕ, ◌+◌, ◌<◌, ◌≤◌, Bool, true, false, cond, List, [], ◌∷◌, ◌++◌, length, map, Option, Some, None, MatchBool}
+use Rattle.std.specs.Prelude.{◌≡◌, ℕ, ◌+◌, ◌<◌, ◌≤◌, min, Bool, true, false, cond, List, [], ◌∷◌, ◌++◌, length, map, Option, Some, None, MatchBool}
 use Rattle.atomic_table.specs.Seated.{TableId}
 use Rattle.turn_table.specs.declared.view.View.{View}
 use Rattle.turn_table.specs.Story.{entries_of, Begins, AreKept, Added, longer, past}
-use Rattle.turn_table.specs.Rule.{times, is_late}
+use Rattle.turn_table.specs.Rule.{times, is_late, greatest, fewest}
 use Rattle.turn_table.specs.Steps.{Seated, higher, IsIdle, IsHolder, IsRight}
 
 -- which turn it is
@@ -142,15 +142,16 @@ module _ {E G : Type 0} where
   -- a taken value has at least the faults of the first one, and more where the pass knows of a failed turn
   pub record AreFaultsOf (p : Knowledge E G) (faults : ℕ) : Type 0 where
     pub least : p.begun ≤ faults
-    pub above : 0 < p.faults → p.begun < faults
+    pub above : 0 < p.faults → fewest p.begun 1 ≤ faults
 
   -- a story that may be given back: the taken one, or that and one more entry, made by the pass
   abbrev pub GoesOn : Knowledge E G → List (ℕ × E) → Type 0
   GoesOn p story = (more : List (ℕ × E)) × (story ≡ p.seen ++ more) × Added p.number more
 
-  -- a count of faults that may be given back: not below the taken one, and above it where the turn failed
+  -- a count of faults that may be given back: not below the taken one, and above it where the turn failed, unless the taken one is the
+  -- last that 64 bits hold
   abbrev pub MayCount : Knowledge E G → ℕ → Bool → Type 0
-  MayCount p faults failed = (taken : ℕ) × (p.held ≡ Some taken) × (taken + cond failed 1 0 ≤ faults)
+  MayCount p faults failed = (taken : ℕ) × (p.held ≡ Some taken) × (taken ≤ faults) × (failed ≡ true → min (taken + 1) greatest ≤ faults)
 
 module _ {T E G : Type 0} where
   -- the seat of a pass stands between two turns, or it holds the value, which the pass has handed out

@@ -1,6 +1,6 @@
 -- The rule of a turn: what holds of the table's words, of the value and of what all seats know, between any two steps.
 -- A seat is a pass as the table sees it, or a copy of one without a number. What it knows stands in `Views.antt`.
-use Rattle.std.specs.Prelude.{◌≡◌, ℕ, ◌+◌, ◌<◌, ◌≤◌, ◌==◌, ◌&&◌, not, nat_lt, nat_le, min, Bool, true, false, cond, List, [], ◌∷◌, ◌++◌, length, map, Option, Some, None, is_some}
+use Rattle.std.specs.Prelude.{◌≡◌, ℕ, ◌+◌, ◌<◌, ◌≤◌, ◌==◌, ◌&&◌, not, nat_lt, nat_le, min, max, Bool, true, false, cond, List, [], ◌∷◌, ◌++◌, length, map, Option, Some, None, is_some}
 use Rattle.std.specs.Option.{option_map_or}
 use mathlib.Core.Option.{some, none}
 use mathlib.Core.Option.{Option as Maybe}
@@ -12,6 +12,14 @@ use Rattle.turn_table.specs.Story.{entries_of, Begins, AreKept}
 -- the number of tickets that are served, 2 ^ 62
 abbrev pub most : ℕ
 most = 4611686018427387904
+
+-- the last value that 64 bits hold, where a count of faults stops
+abbrev pub greatest : ℕ
+greatest = 18446744073709551615
+
+-- the fewest faults of a value that began with so many, where the mark is so
+abbrev pub fewest : ℕ → ℕ → ℕ
+fewest begun mark = max begun (min (begun + mark) greatest)
 
 abbrev pub total : {A : Type 0} → (A → ℕ) → List A → ℕ
 total f [] = 0
@@ -163,7 +171,7 @@ module _ {E G : Type 0} where
     pub failed : Each (FailedIsMarked mark) vs
     pub in_turn : Each HoldsInTurn vs
     pub numbered : Each TurnIsNumbered vs
-    pub counts : Each (CountsEnough (begun + mark)) vs
+    pub counts : Each (CountsEnough (fewest begun mark)) vs
 
 module _ {T E G : Type 0} (story : T → List (ℕ × E)) (faults : T → ℕ) (basis : T → G) where
   -- Where the value is: not yet put in, while no seat has a number (`empty`, `filling`); at home, with the story, the
@@ -171,7 +179,7 @@ module _ {T E G : Type 0} (story : T → List (ℕ × E)) (faults : T → ℕ) (
   pub data Place (log : List (ℕ × E)) (begun mark : ℕ) (root : Option G) (vs : List (View E G)) : List (Maybe (Option T)) → Type 0 where
     empty : total numbered vs ≡ 0 → log ≡ [] → mark ≡ 0 → total holds_it vs ≡ 0 → total begins_it vs ≡ 1 → Place log begun mark root vs (some None ∷ [])
     filling : total numbered vs ≡ 0 → log ≡ [] → mark ≡ 0 → Each (λ v. v.holding.begins ≡ true → v.holding.holds ≡ true) vs → total begins_it vs ≡ 1 → Place log begun mark root vs (none ∷ [])
-    home : (x : T) → story x ≡ log → begun + mark ≤ faults x → root ≡ Some (basis x) → total holds_it vs ≡ 0 → total begins_it vs ≡ 0 → Place log begun mark root vs (some (Some x) ∷ [])
+    home : (x : T) → story x ≡ log → fewest begun mark ≤ faults x → root ≡ Some (basis x) → total holds_it vs ≡ 0 → total begins_it vs ≡ 0 → Place log begun mark root vs (some (Some x) ∷ [])
     out : total holds_it vs ≡ 1 → total begins_it vs ≡ 0 → Place log begun mark root vs (none ∷ [])
 
   -- The words count the numbers given out, the tickets, the turns served and the entries; the fifth is the mark.

@@ -4,7 +4,7 @@ use Rattle.std.specs.Option.{option_map_or}
 use Rattle.atomic_table.specs.Table.{Me, Step}
 use Rattle.turn_table.specs.declared.view.View.{View}
 use Rattle.turn_table.specs.Story.{entries_of, Begins, AreKept, longer, shorter, past}
-use Rattle.turn_table.specs.Rule.{most, size, has_ticket, has, TicketBelow}
+use Rattle.turn_table.specs.Rule.{most, fewest, size, has_ticket, has, TicketBelow}
 use Rattle.turn_table.specs.Views.{Tickets}
 
 abbrev pub Seated : Type 0 → Type 0 → Type 0 → Type 0
@@ -157,7 +157,7 @@ module _ {E G : Type 0} where
   -- what is known of the count of faults of the value that was taken
   pub record AreFaultsFor (v : View E G) (faults : ℕ) : Type 0 where
     pub least : v.holding.begun ≤ faults
-    pub above : 0 < v.holding.failures → v.holding.begun < faults
+    pub above : 0 < v.holding.failures → fewest v.holding.begun 1 ≤ faults
 
   -- a ticket is drawn by a seat whose tickets are all below it; it is at least `first` and the seat's draws, and just that where the seat knows all numbers
   pub record IsTicketFor (v : View E G) (n : ℕ) : Type 0 where

@@ -1,3 +1,4 @@
+//! Passes: what a thread has of a turn, and what it gets by it.
 ghost use Rattle.std.specs.Prelude.{◌≡◌, length};
 
 use crate::steps::TurnSeat;

@@ -1,7 +1,7 @@
-// The steps of a turn, each on the seat of one pass.
+//! The steps of a turn, each on the seat of one pass.
 ghost use Rattle.std.specs.Prelude.{◌≡◌, ◌+◌, ◌≤◌, ◌<◌, ◌^◌, true, false, cond, [], ◌∷◌, ◌++◌, length, Some, None};
 ghost use Rattle.turn_table.specs.Story.{entries_of, Begins, IsAdded};
-ghost use Rattle.turn_table.specs.Rule.{most, is_numbered, is_late, size};
+ghost use Rattle.turn_table.specs.Rule.{fewest, most, is_numbered, is_late, size};
 ghost use Rattle.turn_table.specs.Steps.{beginner, starter, with_ticket, at_turn, with_value, with_mark, without_value, after_turn, with_spare, left_seat, right_seat, merged, IsIdle, IsHolder, MayTake, MayWait, IsRight, IsStoryFor, AreFaultsFor, IsTicketFor};
 
 use crate::rule::{
@@ -123,7 +123,7 @@ pub(crate) fn put_value<T: Storied>(
     requires holder { IsHolder seat.old.me.0 }
     requires slot { seat.old.me.1 ≡ (0, None) ∷ [] }
     requires story { IsAdded number grew seat.old.me.0.reading.seen (T.story value) }
-    requires faults { seat.old.me.0.holding.counted + cond failed 1 0 ≤ T.faults value }
+    requires faults { fewest seat.old.me.0.holding.counted (cond failed 1 0) ≤ T.faults value }
     requires basis { seat.old.me.0.holding.basis ≡ Some (T.basis value) }
     requires short { length (T.story value) < 2 ^ 64 }
     ensures table { seat.new.table_id ≡ seat.old.table_id }

@@ -1,3 +1,4 @@
+//! What a value must tell to stand in a turn.
 ghost use Rattle.std.specs.Prelude.{◌≡◌, ℕ, List, length};
 
 /// A value with a story, a count of faults that never falls, and a basis that never changes.

@@ -1,3 +1,4 @@
+//! Turns over a list of notes, alone and between threads.
 ghost use Rattle.std.specs.Prelude.{◌≡◌, ◌≤◌, ◌<◌, ◌^◌, ◌++◌, ◌∷◌, [], length, None, OnOk, OnErr, IfOk, All};
 ghost use Rattle.turn_table.specs.Passes.{IsFree};
 
@@ -160,15 +161,14 @@ fn passes_wear_out(rt: HostRuntime) -> Result<(), Fail> {
 
 // A turn that fails, with so many faults before.
 fn fail_once<R: Wait + Abort>(rt: &R, turn: &Turn<Notes>, pass: &mut Pass<Notes>, faults: u64)
-    requires free { IsFree turn.now pass.old }
-    requires few { faults ≤ 1000 }
+    requires { IsFree turn.now pass.old }
     ensures { IsFree turn.now pass.new }
 {
     let Ok(mut held) = turn.take(rt, pass) else {
         panic!(rt; "the turn is not worn")
     };
     assert_eq!(rt; held.value.faults, faults);
-    held.value.faults = faults + 1;
+    held.value.faults = held.value.faults.saturating_add(1);
     turn.give(pass, held, true);
 }
 
@@ -179,6 +179,22 @@ fn failed_turns_are_counted(rt: HostRuntime) -> Result<(), Fail> {
     fail_once(&rt, &turn, &mut main, 0);
     fail_once(&rt, &turn, &mut other, 1);
     fail_once(&rt, &turn, &mut main, 2);
+    Ok(())
+}
+
+// A count that stands at the greatest number stays there when a turn fails.
+#[test]
+fn greatest_count_stays(rt: HostRuntime) -> Result<(), Fail> {
+    let mut notes = Notes::new(rt.alloc());
+    notes.faults = u64::MAX;
+    let Ok((turn, mut main)) = Turn::begin(rt.alloc(), notes, 0) else {
+        panic!(rt; "there is memory")
+    };
+    let Ok(held) = turn.take(&rt, &mut main) else {
+        panic!(rt; "the turn is not worn")
+    };
+    assert_eq!(rt; held.value.faults, u64::MAX);
+    turn.give(&mut main, held, true);
     Ok(())
 }
 

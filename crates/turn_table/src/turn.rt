@@ -1,3 +1,4 @@
+//! The turn: passes are split off, joined and let meet, and a value is taken and given back.
 ghost use Rattle.std.specs.Prelude.{◌≡◌, ◌+◌, ◌≤◌, ◌<◌, ◌^◌, true, false, [], Some, None, IfOk, IfErr, OnOk, OnErr};
 ghost use Rattle.turn_table.specs.Story.{entries_of, Begins};
 ghost use Rattle.turn_table.specs.Rule.{is_late};

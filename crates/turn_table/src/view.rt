@@ -1,3 +1,4 @@
+//! What a seat knows, for contracts.
 ghost use Rattle.std.specs.Borrow.{ftrue};
 ghost use Rattle.std.specs.Prelude.{ℕ};
 ghost use Rattle.turn_table.specs.Views.{Tickets, Numbers, Reading, Holding};

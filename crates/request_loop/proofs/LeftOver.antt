@@ -1,0 +1,117 @@
+-- A LOAD whose last rows are missing at the end of the input.
+use Rattle.std.proofs.Common.{◌≡◌, ℕ, ◌+◌, ◌≤◌, ◌<◌, ◌-◌, min, ◌^◌, List, [], ◌∷◌, ◌++◌, length, Option, Some, None, refl, sym, ap, subst, ◌∙◌, arith, append-nil, length-append, inl}
+use Rattle.plan_schema.specs.declared.name.Name.{Name}
+use Rattle.plan_schema.specs.Outside.{extended, TookFront}
+use Rattle.plan_schema.proofs.Writes.{extended_nil}
+use Rattle.byte_lines.specs.Lines.{lines_of}
+use Rattle.byte_lines.specs.declared.rounds.Served.TheVariants as ends
+use Rattle.command_words.specs.declared.reply.Reply.{Reply}
+use Rattle.command_words.specs.declared.reply.Reply.TheVariants as replies
+use Rattle.command_words.specs.declared.reply.Bad.{Bad}
+use Rattle.command_words.specs.Replies.{reply_text}
+use Rattle.session_rules.specs.Requests.{Request, IsBad, load_wish, requests_of, guest}
+use Rattle.session_rules.specs.Runs.{accepted_point}
+use Rattle.request_loop.specs.declared.answers.Why.{Why}
+use Rattle.request_loop.specs.declared.gathering.Gathering.{Gathering}
+use Rattle.request_loop.specs.Exchanges.{Exchange, requests_in, speaker}
+use Rattle.request_loop.specs.Chains.{IsStepFor, IsChain}
+use Rattle.request_loop.specs.Printed.{IsHeld}
+use Rattle.request_loop.specs.Reading.{Rows, counted_lines, requests_from, left_over, load_request}
+use Rattle.request_loop.specs.Gathered.{IsGathered, AreGathered}
+use Rattle.request_loop.specs.Serving.{line_limit, SoFar, HasAnswered, IsServedShort}
+use Rattle.request_loop.proofs.Held.{one_quiet, printed}
+use Rattle.request_loop.proofs.Chained.{chain_more}
+use Rattle.request_loop.proofs.FromLeft.{requests_are}
+use Rattle.request_loop.proofs.OneLine.{requests_more}
+
+pub none_begun : (kept : Option Rows) → AreGathered kept None → kept ≡ None
+none_begun None h = refl
+none_begun (Some r) h = absurd h
+
+pub one_begun : (kept : Option Rows) (g : Gathering) → AreGathered kept (Some g) → (r : Rows) × (kept ≡ Some r) × IsGathered r g × (length r.rows < r.count)
+one_begun None g h = absurd h
+one_begun (Some r) g h = (r, refl, h.0, h.1)
+
+-- fewer rows were read than it has
+pub fewer_read : (kept : Option Rows) (g : Gathering) → AreGathered kept (Some g) → g.read < g.count
+fewer_read kept g h = let o = one_begun kept g h in let n = o.2.read in let c = o.2.count in let few = o.3 in omega (arith, n, c, few)
+
+module _ {S : Type 0} (gives : S → Name → Request → Reply → S → Type 0) (stops : S → Name → Request → Why → S → Type 0) (old now : S) (input : List ℕ) (lines requests : ℕ) (user : Name) (rows : Option Gathering) (page : List ℕ) (before taken : Option (List ℕ))
+    (h : SoFar gives stops old now input [] lines requests user rows page before taken) where
+  few_lines : length (lines_of input) ≤ line_limit
+  few_lines = let all = ap length h.whole ∙ length-append h.read [] in let c = h.counted in let f = h.few in omega (arith, all, c, f)
+
+  all_asked : requests_of input ≡ requests_in h.log ++ left_over h.kept
+  unfolding requests_from
+  all_asked = sym (requests_are input) ∙ ap (λ ls. requests_from (counted_lines 1 ls) None) h.whole ∙ h.rest []
+
+  -- no LOAD is begun
+  pub nothing_left : rows ≡ None → HasAnswered gives stops old now input requests page before taken
+  nothing_left none =
+      record {
+        few = few_lines;
+        log = h.log;
+        asked = all_asked ∙ ap (λ kept. requests_in h.log ++ left_over kept) (none_begun h.kept (subst (AreGathered h.kept) none h.gathered)) ∙ append-nil (requests_in h.log);
+        many = h.many;
+        chain = h.chain;
+        held = h.held;
+      }
+
+  pub counted : min (requests + 1) (2 ^ 64 - 1) ≡ requests + 1
+  counted = let f = h.few in let fr = h.few_requests in omega arith
+
+  -- one is
+  module _ (g : Gathering) (is : rows ≡ Some g) (bad : Bad) (told : (r : Rows) → IsGathered r g → load_wish r.scenario r.count r.rows ≡ IsBad bad) where
+    r : Rows
+    r = (one_begun h.kept g (subst (AreGathered h.kept) is h.gathered)).0
+
+    wish_is : (load_request r).wish ≡ IsBad bad
+    unfolding r
+    wish_is = let o = one_begun h.kept g (subst (AreGathered h.kept) is h.gathered) in told o.0 o.2
+
+    reply : Reply
+    reply = replies.Bad bad
+
+    exchange : Exchange
+    exchange = record { request = load_request r; reply = reply }
+
+    asked : requests_of input ≡ requests_in (h.log ++ exchange ∷ [])
+    unfolding r exchange
+    asked =
+        let o = one_begun h.kept g (subst (AreGathered h.kept) is h.gathered) in
+        all_asked ∙ ap (λ kept. requests_in h.log ++ left_over kept) o.1 ∙ sym (requests_more h.log (record { request = load_request o.0; reply = reply }))
+
+    chain : IsChain gives old guest (h.log ++ exchange ∷ []) now
+    unfolding exchange reply
+    chain =
+        chain_more gives h.log old now now guest (record { request = load_request r; reply = replies.Bad bad }) h.chain
+            (subst (λ wish. IsStepFor gives now (speaker guest h.log) (load_request r) wish (replies.Bad bad) now) (sym wish_is) (record { reply_is = refl; same = refl }))
+
+    held : (then : Option (List ℕ)) (page_then written : List ℕ) → then ≡ extended taken written → written ++ page_then ≡ page ++ reply_text reply → IsHeld before then page_then (h.log ++ exchange ∷ [])
+    unfolding exchange reply
+    held then page_then written wrote rest =
+        one_quiet before taken page h.log then page_then written (record { request = load_request r; reply = replies.Bad bad }) h.held (ap (λ wish. accepted_point wish (replies.Bad bad) ++ []) wish_is) wrote rest
+
+    many : length (h.log ++ exchange ∷ []) ≡ requests + 1
+    many = let m = h.many in let l = length-append h.log (exchange ∷ []) in omega (arith, l)
+
+    -- and told so
+    pub one_left_over : (then : Option (List ℕ)) (page_then written : List ℕ) → then ≡ extended taken written → written ++ page_then ≡ page ++ reply_text (replies.Bad bad) → HasAnswered gives stops old now input (requests + 1) page_then before then
+    unfolding reply
+    one_left_over then page_then written wrote rest =
+        record { few = few_lines; log = h.log ++ exchange ∷ []; asked = asked; many = many; chain = chain; held = held then page_then written wrote rest }
+
+    -- or a front of the reply was written
+    pub one_unwritten : (then : Option (List ℕ)) → TookFront taken then (page ++ reply_text (replies.Bad bad)) → IsServedShort gives stops old now input before then ends.WriteFault
+    unfolding reply
+    one_unwritten then front =
+        record {
+          log = h.log ++ exchange ∷ [];
+          later = [];
+          asked = asked ∙ sym (append-nil (requests_in (h.log ++ exchange ∷ [])));
+          last = now;
+          chain = chain;
+          printed = printed before taken then (page ++ reply_text (replies.Bad bad)) (h.log ++ exchange ∷ []) (held taken (page ++ reply_text (replies.Bad bad)) [] (extended_nil taken) refl) front;
+          rest = inl refl;
+          told = λ why same. absurd (let no : ⊥ = cc in no);
+        }

@@ -1,0 +1,13 @@
+pub mod Held
+pub mod Chained
+pub mod Legal
+pub mod Lines
+pub mod FromLeft
+pub mod Limits
+pub mod KeptRows
+pub mod NoReply
+pub mod LeftOver
+pub mod OneLine
+pub mod Pieces
+pub mod Going
+pub mod Exits

@@ -1,0 +1,9 @@
+pub mod Exchanges
+pub mod Legal
+pub mod Chains
+pub mod Printed
+pub mod Reading
+pub mod Gathered
+pub mod Serving
+pub mod Handed
+pub mod Heard

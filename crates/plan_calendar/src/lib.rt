@@ -2,7 +2,5 @@
 #![tactic(auto)]
 
 mod calendar;
-#[cfg(test)]
-mod tests;
 
 pub use calendar::{Calendar, Holidays};

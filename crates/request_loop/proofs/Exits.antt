@@ -74,9 +74,11 @@ module _ {S K : Type 0} (gives : S → Name → Request → Reply → S → Type
           let counted : requests ≡ count = cc in
           record { log = log; asked = sym asked; chain = chain; text = written_all before (taken sink) page log (taken then) held f.0; counted = sym (many ∙ counted); within = within }
       by_flush count is (inr f) = absurd (no_fault_end result f.1 is)
+
       no_why : (why : Why) → why_of result ≡ Some why → IsFlushed taken sink then page (ends.Ended requests) result → ⊥
       no_why why is (inl f) = let never : None ≡ Some why = ap why_of (sym f.1) ∙ is in cc
       no_why why is (inr f) = no_fault_why result why f.1 is
+
       no_limit : result ≡ ends.Limit → IsFlushed taken sink then page (ends.Ended requests) result → ⊥
       no_limit is (inl f) = let never : ends.Ended requests ≡ ends.Limit = sym f.1 ∙ is in cc
       no_limit is (inr f) = no_fault_limit result f.1 is
@@ -102,6 +104,7 @@ module _ {S K : Type 0} (gives : S → Name → Request → Reply → S → Type
       no_end : (count : ℕ) → result ≡ ends.Ended count → IsFlushed taken sink then page ends.Limit result → ⊥
       no_end count is (inl f) = let never : ends.Limit ≡ ends.Ended count = sym f.1 ∙ is in cc
       no_end count is (inr f) = no_fault_end result f.1 is
+
       no_why : (why : Why) → why_of result ≡ Some why → IsFlushed taken sink then page ends.Limit result → ⊥
       no_why why is (inl f) = let never : None ≡ Some why = ap why_of (sym f.1) ∙ is in cc
       no_why why is (inr f) = no_fault_why result why f.1 is
@@ -143,14 +146,18 @@ module _ {S K : Type 0} (gives : S → Name → Request → Reply → S → Type
       all_written : page ≡ [] → IsFlushed taken sink then page (served_of requests (Err (stop.Kept why))) result → taken then ≡ extended (taken sink) page
       all_written none (inl f) = f.0
       all_written none (inr f) = f.0.front ∙ ap (λ p. extended (taken sink) (take f.0.count p)) none ∙ ap (extended (taken sink)) (take-nil f.0.count) ∙ ap (extended (taken sink)) (sym none)
+
       has_stopped : HasStopped gives stops h.last new h.log (requests_of input) before (taken then) why
       has_stopped = record { request = h.request; later = h.later; asked = h.asked; stopped = h.stopped; written = λ change is. written_all before (taken sink) page h.log (taken then) h.held (all_written (h.cleared change is) flushed) }
+
       no_end : (count : ℕ) → result ≡ ends.Ended count → IsFlushed taken sink then page (served_of requests (Err (stop.Kept why))) result → ⊥
       no_end count is (inl f) = no_kept_end why requests count (sym f.1 ∙ is)
       no_end count is (inr f) = no_fault_end result f.1 is
+
       no_limit : result ≡ ends.Limit → IsFlushed taken sink then page (served_of requests (Err (stop.Kept why))) result → ⊥
       no_limit is (inl f) = no_kept_limit why requests (sym f.1 ∙ is)
       no_limit is (inr f) = no_fault_limit result f.1 is
+
       by_told : (other : Why) → why_of result ≡ Some other → IsFlushed taken sink then page (served_of requests (Err (stop.Kept why))) result → why ≡ other
       by_told other is (inl f) = kept_why why other requests (ap why_of (sym f.1) ∙ is)
       by_told other is (inr f) = absurd (no_fault_why result other f.1 is)

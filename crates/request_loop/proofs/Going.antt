@@ -108,7 +108,19 @@ module _ {S : Type 0} (gives : S → Name → Request → Reply → S → Type 0
           counted = g.counted;
           told = g.told;
           so_far = λ rest. let s = g.so_far rest in record {
-            read = s.read; whole = s.whole; counted = s.counted; few = s.few; log = s.log; kept = s.kept; gathered = s.gathered; rest = s.rest; no_quit = s.no_quit; many = s.many; few_requests = s.few_requests; user_is = s.user_is; chain = s.chain;
+            read = s.read;
+            whole = s.whole;
+            counted = s.counted;
+            few = s.few;
+            log = s.log;
+            kept = s.kept;
+            gathered = s.gathered;
+            rest = s.rest;
+            no_quit = s.no_quit;
+            many = s.many;
+            few_requests = s.few_requests;
+            user_is = s.user_is;
+            chain = s.chain;
             held = none_held before then s.log (written_all before taken page s.log then s.held wrote);
           };
         }

@@ -93,6 +93,7 @@ short_is r g h few = by_fault r g h ∙ by_case g.fault
   where
     short : nat_lt (length (readings r.rows)) r.count ≡ true
     short = let n = h.read in let c = h.count in let l = read_length r.rows in let less : length (readings r.rows) < r.count = omega (arith, n, c, l, few) in grind (arith, nat_tests)
+
     by_case : (fault : Option Bad) → load_of r.scenario r.count (readings r.rows) fault ≡ IsBad (unwrap_or fault bads.Short)
     by_case (Some bad) = refl
     by_case None = ap (λ b. cond b (IsBad bads.Short) (Makes (changes.Load r.scenario (filter_map result_ok (readings r.rows))))) short
@@ -113,7 +114,7 @@ kept_is r g h all none enough = full_is r g h all none ∙ (λ i. Makes (changes
 pub sound_is : (r : Rows) (g : Gathering) → IsGathered r g → g.read ≡ g.count → g.fault ≡ None → g.is_wanting ≡ false → is_sound_change (changes.Load g.scenario g.rows) ≡ true
 sound_is r g h all none enough =
     let many : length g.rows ≡ r.count =
-        let n = h.read in let c = h.count in let l = read_length r.rows in let kept = none_lost (readings r.rows) (sym h.fault ∙ none) in let rows = ap length (h.rows none enough) in omega (arith, n, c, l, kept, rows, all) in
+    let n = h.read in let c = h.count in let l = read_length r.rows in let kept = none_lost (readings r.rows) (sym h.fault ∙ none) in let rows = ap length (h.rows none enough) in omega (arith, n, c, l, kept, rows, all) in
     let some : nat_le 1 (length g.rows) ≡ true = let s = h.some_rows in let one : 1 ≤ length g.rows = omega (arith, many, s) in grind (arith, nat_tests) in
     let few : nat_le (length g.rows) 1000 ≡ true = let s = h.most_rows in let most : length g.rows ≤ 1000 = omega (arith, many, s) in grind (arith, nat_tests) in
     (λ i. (ap is_name h.scenario ∙ h.named) i && (some i && few i && h.sound i))

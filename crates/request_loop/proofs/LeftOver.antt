@@ -85,7 +85,7 @@ module _ {S : Type 0} (gives : S → Name → Request → Reply → S → Type 0
     unfolding exchange reply
     chain =
         chain_more gives h.log old now now guest (record { request = load_request r; reply = replies.Bad bad }) h.chain
-            (subst (λ wish. IsStepFor gives now (speaker guest h.log) (load_request r) wish (replies.Bad bad) now) (sym wish_is) (record { reply_is = refl; same = refl }))
+        (subst (λ wish. IsStepFor gives now (speaker guest h.log) (load_request r) wish (replies.Bad bad) now) (sym wish_is) (record { reply_is = refl; same = refl }))
 
     held : (then : Option (List ℕ)) (page_then written : List ℕ) → then ≡ extended taken written → written ++ page_then ≡ page ++ reply_text reply → IsHeld before then page_then (h.log ++ exchange ∷ [])
     unfolding exchange reply

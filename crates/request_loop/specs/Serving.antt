@@ -134,7 +134,7 @@ module _ {S : Type 0} (gives : S → Name → Request → Reply → S → Type 0
     pub many : length log ≡ requests
     pub chain : IsChain gives old guest log new
     pub held : IsHeld before taken page log
-  
+
   -- a request was handed on, and nothing more is answered; the page holds replies to those before it, but none where it is a change
   pub record IsKeptShort (old new : S) (input page : List ℕ) (before taken : Option (List ℕ)) (why : Why) : Type 0 where
     pub log : List Exchange

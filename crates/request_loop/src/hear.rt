@@ -75,7 +75,7 @@ pub(crate) fn hear<A: Answers, K: Sink>(
     ensures cause { WriteCauses K.faults K.label sink.old sink.new result }
     ensures heard { (kept : Option Rows) → AreGathered kept rows.old
         → IsHeard (A.gives answers.now) (A.stops answers.now) K.taken state.old state.new user.old user.new
-            kept rows.new (number, option_map (λ text. text.now) line.entry) page.old.items page.new.items sink.old sink.new result }
+        kept rows.new (number, option_map (λ text. text.now) line.entry) page.old.items page.new.items sink.old sink.new result }
 {
     if is_blank_text(&line) {
         return Ok(None);
@@ -118,7 +118,7 @@ fn hear_row<A: Answers, K: Sink>(
     ensures heard { (r : Rows) → IsGathered r begun → length r.rows < r.count
         → requests.is_blank_line (number, option_map (λ text. text.now) line.entry) ≡ false
         → IsHeard (A.gives answers.now) (A.stops answers.now) K.taken state.old state.new user.now user.now
-            (Some r) rows.new (number, option_map (λ text. text.now) line.entry) page.old.items page.new.items sink.old sink.new result }
+        (Some r) rows.new (number, option_map (λ text. text.now) line.entry) page.old.items page.new.items sink.old sink.new result }
 {
     let mut begun = begun;
     begun.add(number, line);
@@ -152,7 +152,7 @@ fn load_handed_on<A: Answers, K: Sink>(
     ensures cause { WriteCauses K.faults K.label sink.old sink.new result }
     ensures taken { (wish : Wish) → ComesTo wish gathered
         → IsTaken (A.gives answers.now) (A.stops answers.now) K.taken state.old state.new user.now
-            (record { line = line; wish = wish }) page.old.items page.new.items sink.old sink.new result }
+        (record { line = line; wish = wish }) page.old.items page.new.items sink.old sink.new result }
 {
     match gathered {
         Gathered::Faulty(bad) => Ok(Reply::Bad(bad)),
@@ -188,7 +188,7 @@ fn hear_request<A: Answers, K: Sink>(
     ensures cause { WriteCauses K.faults K.label sink.old sink.new result }
     ensures heard { requests.is_blank_line (number, option_map (λ text. text.now) line.entry) ≡ false
         → IsHeard (A.gives answers.now) (A.stops answers.now) K.taken state.old state.new user.old user.new
-            None rows.new (number, option_map (λ text. text.now) line.entry) page.old.items page.new.items sink.old sink.new result }
+        None rows.new (number, option_map (λ text. text.now) line.entry) page.old.items page.new.items sink.old sink.new result }
 {
     match line {
         Some(text) => hear_command(alloc, answers, state, number, user, rows, text, page, sink),
@@ -218,7 +218,7 @@ fn hear_command<A: Answers, K: Sink>(
     ensures cause { WriteCauses K.faults K.label sink.old sink.new result }
     ensures heard { requests.is_blank_line (number, Some text.now) ≡ false
         → IsHeard (A.gives answers.now) (A.stops answers.now) K.taken state.old state.new user.old user.new
-            None rows.new (number, Some text.now) page.old.items page.new.items sink.old sink.new result }
+        None rows.new (number, Some text.now) page.old.items page.new.items sink.old sink.new result }
 {
     let command = match read_request(text) {
         Ok(command) => command,
@@ -254,12 +254,12 @@ fn answer_command<A: Answers, K: Sink>(
     ensures last { IfOk result (λ answer. answer.is_last ≡ requests.is_quit (Ok command.now)) }
     ensures ok { IfOk result (λ answer.
         IsTaken (A.gives answers.now) (A.stops answers.now) K.taken state.old state.new user.old
-            (record { line = line; wish = requests.wish_of command.now })
-            page.old.items page.new.items sink.old sink.new (Ok answer.reply)) }
+        (record { line = line; wish = requests.wish_of command.now })
+        page.old.items page.new.items sink.old sink.new (Ok answer.reply)) }
     ensures err { IfErr result (λ found.
         IsTaken (A.gives answers.now) (A.stops answers.now) K.taken state.old state.new user.old
-            (record { line = line; wish = requests.wish_of command.now })
-            page.old.items page.new.items sink.old sink.new (Err found)) }
+        (record { line = line; wish = requests.wish_of command.now })
+        page.old.items page.new.items sink.old sink.new (Err found)) }
 {
     let reply = match handed_on(answers, state, line, user, command, page, sink) {
         Ok(reply) => reply,
@@ -290,7 +290,7 @@ fn handed_on<A: Answers, K: Sink>(
     ensures cause { WriteCauses K.faults K.label sink.old sink.new result }
     ensures taken { IsTaken (A.gives answers.now) (A.stops answers.now) K.taken state.old state.new user.now
         (record { line = line; wish = requests.wish_of command.now })
-            page.old.items page.new.items sink.old sink.new result }
+        page.old.items page.new.items sink.old sink.new result }
 {
     match change_of(command) {
         Some(change) => change_handed_on(answers, state, line, user, change, page, sink),

@@ -144,11 +144,11 @@ fn serve_piece<A: Answers, K: Sink>(
     ensures cause { WriteCauses K.faults K.label sink.old sink.new result }
     ensures served { (old : A.State) (input rest : List ℕ) (before : Option (List ℕ))
         → SoFar (A.gives answers.now) (A.stops answers.now) old state.old input
-            (lines_after progress.old.cutter.kept (piece.now ++ rest)) progress.old.lines progress.old.requests progress.old.user
-            progress.old.rows page.old.items before (K.taken sink.old)
+        (lines_after progress.old.cutter.kept (piece.now ++ rest)) progress.old.lines progress.old.requests progress.old.user
+        progress.old.rows page.old.items before (K.taken sink.old)
         → ServedMore (A.gives answers.now) (A.stops answers.now) old state.new input
-            (lines_after progress.new.cutter.kept rest) progress.new.lines progress.new.requests progress.new.user
-            progress.new.rows page.new.items before (K.taken sink.new) result }
+        (lines_after progress.new.cutter.kept rest) progress.new.lines progress.new.requests progress.new.user
+        progress.new.rows page.new.items before (K.taken sink.new) result }
 {
     let mut done = 0;
     while done < piece.len() {
@@ -180,11 +180,11 @@ fn serve_last<A: Answers, K: Sink>(
     ensures cause { WriteCauses K.faults K.label sink.old sink.new result }
     ensures served { (old : A.State) (input : List ℕ) (before : Option (List ℕ))
         → SoFar (A.gives answers.now) (A.stops answers.now) old state.old input
-            (lines_after progress.old.cutter.kept []) progress.old.lines progress.old.requests progress.old.user
-            progress.old.rows page.old.items before (K.taken sink.old)
+        (lines_after progress.old.cutter.kept []) progress.old.lines progress.old.requests progress.old.user
+        progress.old.rows page.old.items before (K.taken sink.old)
         → ServedMore (A.gives answers.now) (A.stops answers.now) old state.new input
-            [] progress.new.lines progress.new.requests progress.new.user
-            progress.new.rows page.new.items before (K.taken sink.new) result }
+        [] progress.new.lines progress.new.requests progress.new.user
+        progress.new.rows page.new.items before (K.taken sink.new) result }
 {
     if progress.cutter.is_empty() {
         return Ok(());
@@ -208,10 +208,10 @@ fn serve_rest<A: Answers, K: Sink>(
     ensures cause { WriteCauses K.faults K.label sink.old sink.new result }
     ensures served { (old : A.State) (input : List ℕ) (before : Option (List ℕ))
         → SoFar (A.gives answers.now) (A.stops answers.now) old state.old input
-            (lines_after progress.old.cutter.kept []) progress.old.lines progress.old.requests progress.old.user
-            progress.old.rows page.old.items before (K.taken sink.old)
+        (lines_after progress.old.cutter.kept []) progress.old.lines progress.old.requests progress.old.user
+        progress.old.rows page.old.items before (K.taken sink.old)
         → ServedLast (A.gives answers.now) (A.stops answers.now) old state.new input
-            progress.new.lines progress.new.requests progress.new.user page.new.items before (K.taken sink.new) result }
+        progress.new.lines progress.new.requests progress.new.user page.new.items before (K.taken sink.new) result }
 {
     match serve_last(alloc, answers, state, progress, page, sink) {
         Ok(()) => serve_left_over(answers, state, progress, page, sink),
@@ -234,10 +234,10 @@ fn serve_left_over<A: Answers, K: Sink>(
     ensures cause { WriteCauses K.faults K.label sink.old sink.new result }
     ensures served { (old : A.State) (input : List ℕ) (before : Option (List ℕ))
         → SoFar (A.gives _answers.now) (A.stops _answers.now) old _state.now input
-            [] progress.old.lines progress.old.requests progress.old.user
-            progress.old.rows page.old.items before (K.taken sink.old)
+        [] progress.old.lines progress.old.requests progress.old.user
+        progress.old.rows page.old.items before (K.taken sink.old)
         → ServedLast (A.gives _answers.now) (A.stops _answers.now) old _state.now input
-            progress.new.lines progress.new.requests progress.new.user page.new.items before (K.taken sink.new) result }
+        progress.new.lines progress.new.requests progress.new.user page.new.items before (K.taken sink.new) result }
 {
     let Some(begun) = progress.rows.take() else {
         return Ok(());
@@ -271,11 +271,11 @@ fn serve_line<A: Answers, K: Sink>(
     ensures cause { WriteCauses K.faults K.label sink.old sink.new result }
     ensures served { (old : A.State) (input : List ℕ) (left : List (Option (List ℕ))) (before : Option (List ℕ))
         → SoFar (A.gives answers.now) (A.stops answers.now) old state.old input
-            (line_of progress.old.cutter.kept ∷ left) progress.old.lines progress.old.requests progress.old.user
-            progress.old.rows page.old.items before (K.taken sink.old)
+        (line_of progress.old.cutter.kept ∷ left) progress.old.lines progress.old.requests progress.old.user
+        progress.old.rows page.old.items before (K.taken sink.old)
         → ServedMore (A.gives answers.now) (A.stops answers.now) old state.new input
-            left progress.new.lines progress.new.requests progress.new.user
-            progress.new.rows page.new.items before (K.taken sink.new) result }
+        left progress.new.lines progress.new.requests progress.new.user
+        progress.new.rows page.new.items before (K.taken sink.new) result }
 {
     if progress.lines >= LINE_LIMIT {
         return Err(Stop::Limit);
@@ -306,7 +306,6 @@ fn serve_line<A: Answers, K: Sink>(
         Err(fault) => Err(Stop::Sink(fault)),
     }
 }
-
 
 /// The text of a line that isn't too long.
 fn text_of(cut: Cut<'_>) -> Option<&[u8]>

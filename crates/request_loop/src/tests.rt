@@ -26,7 +26,11 @@ impl Source for Pieces {
     ghost label = { λ _. [] };
 
     fn read(&mut self, into: &mut [u8]) -> Result<usize, Failed> {
-        let most = if self.place == 0 { self.cut } else { self.piece };
+        let most = if self.place == 0 {
+            self.cut
+        } else {
+            self.piece
+        };
         let rest = &self.bytes.as_slice()[self.place..];
         let count = rest.len().min(into.len()).min(most.max(1));
         into[..count].copy_from_slice(&rest[..count]);
@@ -52,7 +56,13 @@ impl Answers for Counting {
         Ok(Reply::Ok(*count))
     }
 
-    fn ask(&self, count: &mut u64, _: u64, user: &Name, command: &Command<'_>) -> Result<Reply, Why> {
+    fn ask(
+        &self,
+        count: &mut u64,
+        _: u64,
+        user: &Name,
+        command: &Command<'_>,
+    ) -> Result<Reply, Why> {
         match command {
             Command::Plan { .. } => Ok(Reply::No(*count, Refusal::Denied(*user))),
             _ => Ok(Reply::Ok(*count)),

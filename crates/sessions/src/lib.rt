@@ -14,6 +14,3 @@ mod terms;
 
 pub use byte_lines::Served;
 pub use serve::serve_alone;
-
-#[cfg(test)]
-mod tests;

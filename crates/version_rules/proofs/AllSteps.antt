@@ -81,7 +81,7 @@ step_means m point w user ids (changes.Commit s) whole h meant new =
     let after = with_changes w p (scenario w s).own in
     let y : Scenario = record (scenario w s) { base = contents_in after p; own = [] } in
     let made : contents_in (step w user (changes.Commit s)) p ≡ contents_above w s =
-        ap (λ o. contents_of (unwrap_or o (root_with []))) (there_after after s y p above.another) ∙ contents_after w p (scenario w s).own whole above.there in
+    ap (λ o. contents_of (unwrap_or o (root_with []))) (there_after after s y p above.another) ∙ contents_after w p (scenario w s).own whole above.there in
     commit_means m m point w user ids s whole (is_there w user (changes.Commit s) h) above.there meant (kept_itself m ids)
     (gives m point (contents_in (step w user (changes.Commit s)) p) (contents_above w s) (joins_anew (scenario w s).own (ids p).contents (ids s)) new made)
 step_means m point w user ids (changes.Drop s) whole h meant new = λ q x is. by_cases q x is (name_eq q s) refl

@@ -69,12 +69,12 @@ module _ (base : Contents) (full : List Entry) where
       let v = versioned_after base before in
       let refusal = first_none (scenario_refusal w entry.user entry.change) (full_journal before entry.change) next.accepted in
       let made : contents_at base full (length before) ≡ renewed_contents w entry.user entry.change =
-          ap (λ h. contents_at base h (length before)) (sym is) ∙ (λ i. made_by (world_after base (take_here before (entry ∷ rest) i)) (get_here before entry rest i)) in
+      ap (λ h. contents_at base h (length before)) (sym is) ∙ (λ i. made_by (world_after base (take_here before (entry ∷ rest) i)) (get_here before entry rest i)) in
       let new : GivesNew m (suc (length before)) (renewed_contents w entry.user entry.change) = λ cell. ap (λ c. some_rows (cell_rows c cell)) made in
       let worlds : world_after base (before ++ entry ∷ []) ≡ step w entry.user entry.change = fold_more (λ u (e : Entry). step u e.user e.change) (begin_with base) before entry in
       let versions : versioned_after base (before ++ entry ∷ []) ≡ next_versioned v entry = fold_more next_versioned (begin_versioned base) before entry in
       let ids_are : ids_after base (before ++ entry ∷ []) ≡ step_ids (suc (length before)) w (ids_after base before) entry.change =
-          ap (λ (u : Versioned). u.ids) versions ∙ (λ i. step_ids (suc (so_far.point i)) (so_far.world i) v.ids entry.change) in
+      ap (λ (u : Versioned). u.ids) versions ∙ (λ i. step_ids (suc (so_far.point i)) (so_far.world i) v.ids entry.change) in
       let means = step_means m (suc (length before)) w entry.user (ids_after base before) entry.change so_far.whole refusal so_far.meant new in
       let P : World × WorldIds → Type 0 = λ q. AreWorldMeant m q.0 q.1 in
       record {

@@ -152,7 +152,7 @@ commit_means m m' point w user ids s whole h k meant keep give =
     let y = changed_scenario_of p z x.own in
     let given = with_scenario w p y in
     let first = with_means m m' w ids p y (record { base = if is_root p then new else (ids p).base; contents = new }) meant keep
-          (scenario_changes m m' p z x.own (ids p) new (λ t. root_is w p z whole at t) each.base.ordered each.own.ordered its (keep.base p) means) in
+    (scenario_changes m m' p z x.own (ids p) new (λ t. root_is w p z whole at t) each.base.ordered each.own.ordered its (keep.base p) means) in
     let joined_contents = subst (λ c. AreMeant m' c new) (sym (contents_after w p x.own whole k)) means in
     with_means m' m' given (with_contents_ids ids p new) s (record x { base = contents_in given p; own = [] }) (record { base = new; contents = new }) first (kept_itself m' (with_contents_ids ids p new))
     (record { base = joined_contents; contents = joined_contents })

@@ -57,5 +57,5 @@ returns-in-Err-clause-heard g c r is few some =
     let h = c.add.ensures r is in
     let taken = c.in-Err.ensures.taken (load_wish r.scenario r.count (with_row r line).rows) (c.finish-gathered.ensures (with_row r line) h) in
     no_reply (g.A.Answers.gives c.args.answers.now) (g.A.Answers.stops c.args.answers.now) g.K.Sink.taken c.args.state.now c.load_handed_on.new.state c.args.user.now c.args.user.now (Some r) c.args.rows.now line
-        (record { line = c.add.new.self.line; wish = load_wish r.scenario r.count (with_row r line).rows }) c.args.page.now.items c.load_handed_on.new.page.items c.args.sink.now c.load_handed_on.new.sink c.in-Err.stop
-        (record { some = some; all = is_full r line c.add.new.self h c.if-begun.false ∙ ap (λ n. (record { line = n; wish = load_wish r.scenario r.count (with_row r line).rows } ∷ [], None)) (sym h.line) }) taken
+    (record { line = c.add.new.self.line; wish = load_wish r.scenario r.count (with_row r line).rows }) c.args.page.now.items c.load_handed_on.new.page.items c.args.sink.now c.load_handed_on.new.sink c.in-Err.stop
+    (record { some = some; all = is_full r line c.add.new.self h c.if-begun.false ∙ ap (λ n. (record { line = n; wish = load_wish r.scenario r.count (with_row r line).rows } ∷ [], None)) (sym h.line) }) taken

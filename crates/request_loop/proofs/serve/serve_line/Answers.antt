@@ -32,7 +32,7 @@ returns-in-Err-clause-served g c old input left before so =
 pub returns-in-Ok-clause-served : goal.returns-in-Ok-clause-served
 returns-in-Ok-clause-served g c old input left before so =
     let it = an_answer (g.A.Answers.gives c.args.answers.now) (g.A.Answers.stops c.args.answers.now) g.K.Sink.taken c.args.state.now c.hear-heard.new.state c.args.progress.now.user c.hear-heard.new.user so.kept c.hear-heard.new.rows (c.args.progress.now.lines + 1) (option_map (λ text. text.now) c.text_of.result) (line_of c.args.progress.now.cutter.kept) (c.text_of.ensures ∙ c.line.ensures)
-        c.args.page.now.items c.hear-heard.new.page.items c.args.sink.now c.hear-heard.new.sink c.in-Ok-Some.field-0 c.in-Ok-Some.answer c.in-Ok-Some.field-0-is (c.in-Ok-Some.ensures.heard so.kept so.gathered) in
+    c.args.page.now.items c.hear-heard.new.page.items c.args.sink.now c.hear-heard.new.sink c.in-Ok-Some.field-0 c.in-Ok-Some.answer c.in-Ok-Some.field-0-is (c.in-Ok-Some.ensures.heard so.kept so.gathered) in
     subst (λ requests. HasQuit (g.A.Answers.gives c.args.answers.now) (g.A.Answers.stops c.args.answers.now) old c.hear-heard.new.state input (c.args.progress.now.lines + 1) requests c.put_reply.new.page.items before (g.K.Sink.taken c.put_reply.new.sink))
     (sym (c.saturating_add-progress.ensures ∙ counted (g.A.Answers.gives c.args.answers.now) (g.A.Answers.stops c.args.answers.now) g.K.Sink.taken old c.args.state.now input c.args.progress.now.lines c.args.progress.now.requests c.args.progress.now.user c.args.progress.now.rows c.args.page.now.items before c.args.sink.now
     (line_of c.args.progress.now.cutter.kept) left so))
@@ -43,7 +43,7 @@ returns-in-Ok-clause-served g c old input left before so =
 pub returns-in-Ok-2-clause-served : goal.returns-in-Ok-2-clause-served
 returns-in-Ok-2-clause-served g c old input left before so =
     let it = an_answer (g.A.Answers.gives c.args.answers.now) (g.A.Answers.stops c.args.answers.now) g.K.Sink.taken c.args.state.now c.hear-heard.new.state c.args.progress.now.user c.hear-heard.new.user so.kept c.hear-heard.new.rows (c.args.progress.now.lines + 1) (option_map (λ text. text.now) c.text_of.result) (line_of c.args.progress.now.cutter.kept) (c.text_of.ensures ∙ c.line.ensures)
-        c.args.page.now.items c.hear-heard.new.page.items c.args.sink.now c.hear-heard.new.sink c.in-Ok-Some.field-0 c.in-Ok-Some.answer c.in-Ok-Some.field-0-is (c.in-Ok-Some.ensures.heard so.kept so.gathered) in
+    c.args.page.now.items c.hear-heard.new.page.items c.args.sink.now c.hear-heard.new.sink c.in-Ok-Some.field-0 c.in-Ok-Some.answer c.in-Ok-Some.field-0-is (c.in-Ok-Some.ensures.heard so.kept so.gathered) in
     subst (λ requests. SoFar (g.A.Answers.gives c.args.answers.now) (g.A.Answers.stops c.args.answers.now) old c.hear-heard.new.state input left (c.args.progress.now.lines + 1) requests c.hear-heard.new.user c.hear-heard.new.rows c.put_reply.new.page.items before (g.K.Sink.taken c.put_reply.new.sink))
     (sym (c.saturating_add-progress.ensures ∙ counted (g.A.Answers.gives c.args.answers.now) (g.A.Answers.stops c.args.answers.now) g.K.Sink.taken old c.args.state.now input c.args.progress.now.lines c.args.progress.now.requests c.args.progress.now.user c.args.progress.now.rows c.args.page.now.items before c.args.sink.now
     (line_of c.args.progress.now.cutter.kept) left so))
@@ -54,7 +54,7 @@ returns-in-Ok-2-clause-served g c old input left before so =
 pub returns-clause-served : goal.returns-clause-served
 returns-clause-served g c old input left before so =
     let it = an_answer (g.A.Answers.gives c.args.answers.now) (g.A.Answers.stops c.args.answers.now) g.K.Sink.taken c.args.state.now c.hear-heard.new.state c.args.progress.now.user c.hear-heard.new.user so.kept c.hear-heard.new.rows (c.args.progress.now.lines + 1) (option_map (λ text. text.now) c.text_of.result) (line_of c.args.progress.now.cutter.kept) (c.text_of.ensures ∙ c.line.ensures)
-        c.args.page.now.items c.hear-heard.new.page.items c.args.sink.now c.hear-heard.new.sink c.in-Ok-Some.field-0 c.in-Ok-Some.answer c.in-Ok-Some.field-0-is (c.in-Ok-Some.ensures.heard so.kept so.gathered) in
+    c.args.page.now.items c.hear-heard.new.page.items c.args.sink.now c.hear-heard.new.sink c.in-Ok-Some.field-0 c.in-Ok-Some.answer c.in-Ok-Some.field-0-is (c.in-Ok-Some.ensures.heard so.kept so.gathered) in
     unprinted (g.A.Answers.gives c.args.answers.now) (g.A.Answers.stops c.args.answers.now) g.K.Sink.taken old c.args.state.now input c.args.progress.now.lines c.args.progress.now.requests c.args.progress.now.user c.args.progress.now.rows c.args.page.now.items before c.args.sink.now
     (line_of c.args.progress.now.cutter.kept) left so it.request it.completes c.hear-heard.new.state c.hear-heard.new.page.items c.hear-heard.new.sink c.in-Ok-Some.answer.reply it.step it.cleared
     c.put_reply.new.sink c.in-Err-put_reply.ensures.short.err

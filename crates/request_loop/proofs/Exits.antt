@@ -1,28 +1,26 @@
 -- How a session ends, once what the page held is written.
-use Rattle.std.proofs.Common.{◌≡◌, ℕ, ◌+◌, ◌≤◌, ◌<◌, List, [], ◌∷◌, ◌++◌, length, take, Option, Some, None, true, false, not, ◌&&◌, ◌||◌, nat_lt, length-append, Result, Ok, Err, refl, sym, ap, subst, ◌∙◌, arith, append-nil, inl, inr}
+use Rattle.std.proofs.Common.{◌≡◌, ℕ, ◌+◌, ◌≤◌, ◌<◌, List, [], ◌∷◌, ◌++◌, length, take, Option, Some, None, false, length-append, Result, Ok, Err, refl, sym, ap, subst, ◌∙◌, arith, append-nil, inl, inr}
 use Rattle.std.specs.Prelude.{◌⊎◌}
 use Rattle.std.proofs.Math.Seq.{take-length, take-nil}
-use Rattle.std.proofs.lemmas.Bool.Decides.{nat_tests}
 use Rattle.plan_schema.specs.declared.name.Name.{Name}
-use Rattle.plan_schema.specs.declared.change.Change.{Change}
 use Rattle.plan_schema.specs.declared.outside.SinkFault.{SinkFault}
 use Rattle.plan_schema.specs.declared.outside.SinkFault.TheVariants as sinks
 use Rattle.plan_schema.specs.Outside.{extended, TookFront}
-use Rattle.byte_lines.specs.Lines.{lines_of, lines_from, lines_after}
+use Rattle.byte_lines.specs.Lines.{lines_from, lines_after}
 use Rattle.byte_lines.specs.declared.rounds.Served.{Served}
 use Rattle.byte_lines.specs.declared.rounds.Served.TheVariants as ends
 use Rattle.command_words.specs.declared.reply.Reply.{Reply}
-use Rattle.session_rules.specs.Requests.{Request, Makes, requests_of, guest}
+use Rattle.session_rules.specs.Requests.{Request, requests_of, guest}
 use Rattle.request_loop.specs.declared.answers.Why.{Why}
 use Rattle.request_loop.specs.declared.answers.Why.TheVariants as whys
 use Rattle.request_loop.specs.declared.hear.Stop.{Stop}
 use Rattle.request_loop.specs.declared.hear.Stop.TheVariants as stop
-use Rattle.request_loop.specs.Exchanges.{Exchange, requests_in, text_of, speaker}
+use Rattle.request_loop.specs.Exchanges.{Exchange, requests_in}
 use Rattle.request_loop.specs.Chains.{IsChain}
-use Rattle.request_loop.specs.Printed.{IsHeld, IsPrinted}
+use Rattle.request_loop.specs.Printed.{IsHeld}
 use Rattle.request_loop.specs.Reading.{counted_lines, requests_from}
 use Rattle.request_loop.specs.Handed.{served_of, IsFlushed, HasEnded}
-use Rattle.request_loop.specs.Serving.{byte_limit, line_limit, lines_within, has_quit, is_past_limit, Serves, IsServed, IsServedShort, HasStopped, SoFar, HasQuit, IsOver, IsKeptShort, ServedMore, ServedLast, why_of}
+use Rattle.request_loop.specs.Serving.{byte_limit, has_quit, is_past_limit, Serves, IsServed, IsServedShort, HasStopped, SoFar, HasQuit, IsOver, IsKeptShort, ServedMore, ServedLast, why_of}
 use Rattle.request_loop.specs.declared.gathering.Gathering.{Gathering}
 use Rattle.request_loop.proofs.Held.{written_all, printed}
 use Rattle.request_loop.proofs.FromLeft.{requests_are}

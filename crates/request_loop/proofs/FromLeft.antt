@@ -1,16 +1,13 @@
 -- The requests that are read from the left are those of the input.
-use Rattle.std.proofs.Common.{◌≡◌, ℕ, zero, suc, ◌+◌, ◌-◌, ◌≤◌, ◌<◌, List, [], ◌∷◌, ◌++◌, length, take, drop, Bool, true, false, not, cond, nat_le, Option, Some, None, Result, Ok, Err, IfOk, refl, sym, ap, subst, ◌∙◌, arith, append_assoc, append-nil, length-append}
-use Rattle.std.specs.Prelude.{filter}
-use Rattle.std.specs.List.{enumerate_from}
+use Rattle.std.proofs.Common.{◌≡◌, ℕ, zero, suc, ◌+◌, ◌≤◌, List, [], ◌∷◌, ◌++◌, length, take, drop, true, false, not, cond, nat_le, Option, Some, None, Result, Ok, Err, refl, sym, ap, ◌∙◌, arith, append_assoc, append-nil, length-append}
 use Rattle.std.proofs.lemmas.Bool.Decides.{nat_tests}
 use Rattle.std.proofs.lemmas.List.{length-drop}
-use Rattle.std.proofs.Math.Seq.{take-nil}
 use Rattle.command_words.specs.declared.command.Command.{Command}
 use Rattle.command_words.specs.declared.command.Command.TheVariants as commands
 use Rattle.command_words.specs.declared.reply.Bad.{Bad}
-use Rattle.session_rules.specs.Requests.{Line, is_blank_line, reading, read_wish, Request, load_wish, is_quit, request_of, taken_by, requests_within, requests_of}
+use Rattle.session_rules.specs.Requests.{Line, is_blank_line, reading, read_wish, load_wish, is_quit, request_of, taken_by, requests_within, requests_of}
 use Rattle.byte_lines.specs.Lines.{lines_of}
-use Rattle.request_loop.specs.Reading.{Rows, begun_rows, with_row, load_request, settled_by, settled, begun, stepped, is_end, requests_from, counted_lines}
+use Rattle.request_loop.specs.Reading.{Rows, begun_rows, with_row, settled_by, begun, stepped, is_end, requests_from, counted_lines}
 
 with_rows : Rows → List Line → Rows
 with_rows r more = record r { rows = r.rows ++ more }

@@ -1,25 +1,23 @@
 -- An input that is read piece by piece: its beginning, a piece more, and an end that comes too early.
-use Rattle.std.proofs.Common.{◌≡◌, ℕ, ◌+◌, ◌-◌, ◌≤◌, ◌<◌, List, [], ◌∷◌, ◌++◌, length, take, drop, Option, Some, None, refl, sym, ap, subst, ◌∙◌, arith, append_assoc, append-nil, length-append, inl, inr, Result, Ok, Err}
-use Rattle.std.proofs.lemmas.List.{length-take, length-take-le, length-drop, take-append-drop, take-take}
+use Rattle.std.proofs.Common.{◌≡◌, ℕ, ◌+◌, ◌-◌, ◌≤◌, ◌<◌, List, [], ◌++◌, length, take, drop, Option, Some, None, refl, sym, ap, subst, ◌∙◌, arith, append_assoc, length-append, inl}
+use Rattle.std.proofs.lemmas.List.{length-take-le, length-drop, take-append-drop, take-take}
 use Rattle.plan_schema.specs.declared.name.Name.{Name}
 use Rattle.plan_schema.specs.Name.{is_name, name_of}
 use Rattle.plan_schema.specs.declared.outside.SinkFault.{SinkFault}
 use Rattle.plan_schema.specs.declared.outside.SinkFault.TheVariants as sinks
-use Rattle.plan_schema.specs.Outside.{extended, TookFront, Gave, GaveFront, Gives}
+use Rattle.plan_schema.specs.Outside.{extended, TookFront, Gave, GaveFront}
 use Rattle.plan_schema.proofs.Writes.{extended_nil}
-use Rattle.byte_lines.specs.Lines.{lines_of, lines_from, lines_after, lines_joined}
+use Rattle.byte_lines.specs.Lines.{lines_from, lines_after, lines_joined}
 use Rattle.byte_lines.proofs.Streams.{lines_after-nothing, lines_from-append}
 use Rattle.byte_lines.specs.declared.rounds.Served.{Served}
 use Rattle.byte_lines.specs.declared.rounds.Served.TheVariants as ends
 use Rattle.command_words.specs.declared.reply.Reply.{Reply}
-use Rattle.session_rules.specs.Requests.{Request, requests_of, guest}
+use Rattle.session_rules.specs.Requests.{Request, guest}
 use Rattle.request_loop.specs.declared.answers.Why.{Why}
-use Rattle.request_loop.specs.Exchanges.{requests_in, text_of}
-use Rattle.request_loop.specs.Printed.{IsHeld, IsPrinted}
 use Rattle.request_loop.specs.Reading.{counted_lines, requests_from}
 use Rattle.request_loop.specs.declared.gathering.Gathering.{Gathering}
-use Rattle.request_loop.specs.Serving.{byte_limit, sink_end, Serves, HasServed, IsServedShort, SoFar, Going, ServedMore, why_of}
-use Rattle.request_loop.proofs.Held.{none_held, written_all, printed, printed_as_is}
+use Rattle.request_loop.specs.Serving.{byte_limit, sink_end, Serves, HasServed, SoFar, Going, why_of}
+use Rattle.request_loop.proofs.Held.{none_held, written_all, printed}
 use Rattle.request_loop.proofs.FromLeft.{requests_are}
 
 -- what a read gave of the rest

@@ -1,5 +1,5 @@
 -- What is kept of a LOAD while its rows are read.
-use Rattle.std.proofs.Common.{◌≡◌, ℕ, suc, ◌+◌, ◌≤◌, ◌<◌, List, [], ◌∷◌, ◌++◌, length, Bool, true, false, ◌&&◌, cond, nat_le, nat_lt, Option, Some, None, Result, Ok, Err, refl, sym, ap, subst, ◌∙◌, arith, length-append}
+use Rattle.std.proofs.Common.{◌≡◌, ℕ, suc, ◌+◌, ◌≤◌, ◌<◌, List, [], ◌∷◌, ◌++◌, length, true, false, ◌&&◌, cond, nat_le, nat_lt, Option, Some, None, Result, Ok, Err, refl, sym, ap, ◌∙◌, arith, length-append}
 use Rattle.std.specs.Prelude.{map, unwrap_or}
 use Rattle.std.specs.List.{enumerate_from, filter_map}
 use Rattle.std.specs.Result.{result_ok}
@@ -11,10 +11,10 @@ use Rattle.plan_schema.specs.declared.key.Key.{Key}
 use Rattle.plan_schema.specs.declared.key.Record.{Record}
 use Rattle.plan_schema.specs.declared.change.Change.TheVariants as changes
 use Rattle.plan_schema.specs.Name.{is_name}
-use Rattle.plan_schema.specs.Sound.{are_sound_rows, is_sound_change}
+use Rattle.plan_schema.specs.Sound.{is_sound_change}
 use Rattle.command_words.specs.declared.reply.Bad.{Bad}
 use Rattle.command_words.specs.declared.reply.Bad.TheVariants as bads
-use Rattle.session_rules.specs.Requests.{Line, Wish, Makes, Asks, IsBad, row_reading, fault_in, first_fault, load_of, load_wish, user_after}
+use Rattle.session_rules.specs.Requests.{Line, Makes, IsBad, row_reading, fault_in, first_fault, load_of, load_wish, user_after}
 use Rattle.request_loop.specs.Reading.{Rows, with_row, settled, settled_by, load_request}
 use Rattle.request_loop.specs.Gathered.{readings, earlier, IsGathered, IsKept}
 use Rattle.request_loop.specs.declared.gathering.Gathering.{Gathering}

@@ -1,5 +1,5 @@
 -- Lines at which nothing is handed on, or nothing is answered.
-use Rattle.std.proofs.Common.{◌≡◌, ℕ, ◌≤◌, List, [], ◌∷◌, Bool, false, nat_le, Option, Some, None, Result, Ok, Err, refl, sym, ap, ◌∙◌, inr, arith}
+use Rattle.std.proofs.Common.{◌≡◌, ℕ, ◌≤◌, List, [], false, nat_le, Option, Some, None, Result, Ok, Err, refl, sym, ap, ◌∙◌, inr, arith}
 use Rattle.std.proofs.lemmas.Bool.Decides.{nat_tests}
 use Rattle.plan_schema.specs.declared.name.Name.{Name}
 use Rattle.command_words.specs.declared.reply.Reply.{Reply}

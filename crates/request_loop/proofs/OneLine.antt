@@ -1,35 +1,30 @@
 -- One line more.
-use Rattle.std.proofs.Common.{◌≡◌, ℕ, zero, suc, ◌+◌, ◌-◌, ◌≤◌, ◌<◌, min, ◌^◌, List, [], ◌∷◌, ◌++◌, length, Bool, true, false, not, cond, Option, Some, None, Result, Ok, Err, IfOk, refl, sym, ap, subst, ◌∙◌, ◌||◌, arith, append_assoc, append-nil, length-append, inl, inr}
+use Rattle.std.proofs.Common.{◌≡◌, ℕ, ◌+◌, ◌-◌, ◌≤◌, ◌<◌, min, ◌^◌, List, [], ◌∷◌, ◌++◌, length, true, false, cond, Option, Some, None, Ok, Err, refl, sym, ap, subst, ◌∙◌, ◌||◌, arith, append_assoc, append-nil, length-append, inl, inr}
 use Rattle.std.specs.Prelude.{◌⊎◌}
-use Rattle.std.specs.List.{list_any}
 use Rattle.std.proofs.lemmas.List.{map-append}
 use Rattle.plan_schema.specs.declared.name.Name.{Name}
 use Rattle.plan_schema.specs.declared.change.Change.{Change}
-use Rattle.plan_schema.specs.declared.outside.SinkFault.{SinkFault}
 use Rattle.plan_schema.specs.Outside.{extended, TookFront}
 use Rattle.plan_schema.proofs.Writes.{extended_nil}
 use Rattle.byte_lines.specs.Lines.{lines_of}
 use Rattle.byte_lines.specs.declared.rounds.Served.TheVariants as ends
-use Rattle.command_words.specs.declared.command.Command.{Command}
-use Rattle.command_words.specs.declared.command.Command.TheVariants as commands
 use Rattle.command_words.specs.declared.reply.Reply.{Reply}
-use Rattle.command_words.specs.declared.reply.Bad.{Bad}
 use Rattle.command_words.specs.Replies.{reply_text}
-use Rattle.session_rules.specs.Requests.{Line, is_blank_line, reading, read_wish, Wish, Makes, Asks, IsBad, Request, requests_of, user_after, is_quit, guest}
+use Rattle.session_rules.specs.Requests.{Wish, Makes, Asks, IsBad, Request, requests_of, user_after, guest}
 use Rattle.request_loop.specs.declared.answers.Why.{Why}
 use Rattle.request_loop.specs.declared.hear.Answer.{Answer}
 use Rattle.request_loop.specs.declared.gathering.Gathering.{Gathering}
-use Rattle.request_loop.specs.Exchanges.{Exchange, requests_in, text_of, IsQuiet, speaker}
+use Rattle.request_loop.specs.Exchanges.{Exchange, requests_in, IsQuiet, speaker}
 use Rattle.request_loop.specs.Chains.{IsStep, IsChain}
-use Rattle.request_loop.specs.Printed.{IsHeld, IsPrinted}
-use Rattle.request_loop.specs.Reading.{Rows, stepped, is_end, counted_lines, requests_from}
+use Rattle.request_loop.specs.Printed.{IsHeld}
+use Rattle.request_loop.specs.Reading.{Rows, is_end, counted_lines, requests_from}
 use Rattle.request_loop.specs.Gathered.{AreGathered}
 use Rattle.request_loop.specs.Handed.{IsCleared}
-use Rattle.request_loop.specs.Heard.{CompletesNone, Completes, IsHeard, IsPassed, IsLineAnswer, IsLineStop, IsUnwritten}
-use Rattle.request_loop.specs.Serving.{line_limit, is_past_limit, is_quit_wish, has_quit, SoFar, HasQuit, IsKeptShort, IsOver, IsServedShort, ServedMore}
+use Rattle.request_loop.specs.Heard.{CompletesNone, Completes, IsHeard, IsPassed, IsLineAnswer, IsUnwritten}
+use Rattle.request_loop.specs.Serving.{line_limit, is_quit_wish, has_quit, SoFar, HasQuit, IsKeptShort, IsOver, IsServedShort, ServedMore}
 use Rattle.request_loop.specs.declared.hear.Stop.{Stop}
 use Rattle.request_loop.specs.declared.hear.Stop.TheVariants as stop
-use Rattle.request_loop.proofs.Held.{written_all, one_quiet, none_held, one_held, printed, printed_as_is}
+use Rattle.request_loop.proofs.Held.{written_all, one_quiet, none_held, one_held, printed}
 use Rattle.request_loop.proofs.Chained.{chain_more}
 use Rattle.request_loop.proofs.FromLeft.{requests_are, one_blank, one_step}
 use Rattle.request_loop.proofs.Limits.{or_false, quit_both, quit_stepped, no_quit_left, asked_in, past_lines}

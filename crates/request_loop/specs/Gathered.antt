@@ -1,5 +1,5 @@
 -- What is kept of a LOAD while its rows are read, and what it comes to.
-use Rattle.std.specs.Prelude.{◌≡◌, ℕ, ◌<◌, ◌≤◌, true, false, List, ◌∷◌, [], ◌++◌, length, map, Option, Some, None, Result, Ok, Err}
+use Rattle.std.specs.Prelude.{◌≡◌, ◌<◌, ◌≤◌, true, false, List, ◌∷◌, [], ◌++◌, length, map, Option, Some, None, Result}
 use Rattle.std.specs.List.{enumerate_from, filter_map}
 use Rattle.std.specs.Result.{result_ok}
 use Rattle.plan_schema.specs.declared.key.Key.{Key}

@@ -1,14 +1,11 @@
 -- What is written before a request is handed on, and when a session ends.
 use Rattle.std.specs.Prelude.{◌≡◌, ◌⊎◌, ℕ, ◌≤◌, List, [], Option, Result, Ok, Err}
-use Rattle.plan_schema.specs.declared.name.Name.{Name}
 use Rattle.plan_schema.specs.declared.change.Change.{Change}
 use Rattle.plan_schema.specs.Outside.{extended, TookFront, Rose}
 use Rattle.plan_schema.specs.declared.outside.SinkFault.TheVariants as sinks
-use Rattle.command_words.specs.declared.reply.Reply.{Reply}
 use Rattle.session_rules.specs.Requests.{Request, Makes}
 use Rattle.byte_lines.specs.declared.rounds.Served.{Served}
 use Rattle.byte_lines.specs.declared.rounds.Served.TheVariants as ends
-use Rattle.request_loop.specs.declared.answers.Why.{Why}
 use Rattle.request_loop.specs.declared.answers.Why.TheVariants as whys
 use Rattle.request_loop.specs.declared.hear.Stop.{Stop}
 use Rattle.request_loop.specs.declared.hear.Stop.TheVariants as stop

@@ -1,4 +1,4 @@
-use Rattle.std.proofs.Common.{◌∙◌, ◌≡◌, ℕ, List, Option, Some, None, refl, sym, subst, inl}
+use Rattle.std.proofs.Common.{◌∙◌, refl, sym, subst, inl}
 use Rattle.std.specs.Prelude.{option_map}
 use Rattle.session_rules.specs.Requests.{Line}
 use Rattle.request_loop.specs.Gathered.{AreGathered}

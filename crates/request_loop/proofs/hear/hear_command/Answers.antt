@@ -1,4 +1,4 @@
-use Rattle.std.proofs.Common.{◌∙◌, ℕ, ◌≤◌, List, Some, Ok, refl, sym, ap, inr, arith}
+use Rattle.std.proofs.Common.{◌∙◌, Some, Ok, refl, sym, ap, inr, arith}
 use Rattle.session_rules.specs.Requests.{reading}
 use Rattle.request_loop.specs.Reading.{begun_rows}
 use Rattle.request_loop.proofs.NoReply.{told, load_begins}

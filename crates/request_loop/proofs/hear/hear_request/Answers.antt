@@ -1,4 +1,4 @@
-use Rattle.std.proofs.Common.{ℕ, List, ap}
+use Rattle.std.proofs.Common.{ap}
 use Rattle.std.specs.Prelude.{option_map}
 use Rattle.command_words.specs.declared.reply.Bad.TheVariants as bads
 use Rattle.request_loop.proofs.NoReply.{told, long_line}

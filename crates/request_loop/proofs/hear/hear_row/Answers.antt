@@ -1,11 +1,9 @@
-use Rattle.std.proofs.Common.{◌≡◌, ◌∙◌, ◌∷◌, [], ℕ, List, Option, Some, None, refl, sym, ap, subst, inr, arith}
-use Rattle.std.specs.Prelude.{option_map, Err}
+use Rattle.std.proofs.Common.{◌∙◌, ◌∷◌, [], Some, None, refl, sym, ap, subst, inr}
+use Rattle.std.specs.Prelude.{option_map}
 use Rattle.session_rules.specs.Requests.{Line, load_wish}
-use Rattle.request_loop.specs.Reading.{Rows, with_row, load_request}
-use Rattle.request_loop.specs.Gathered.{IsGathered}
+use Rattle.request_loop.specs.Reading.{with_row}
 use Rattle.request_loop.specs.Chains.{IsStep}
-use Rattle.request_loop.specs.Heard.{Completes, IsTaken}
-use Rattle.request_loop.proofs.KeptRows.{goes_on, less_read, is_full, all_read, still_speaks}
+use Rattle.request_loop.proofs.KeptRows.{goes_on, less_read, is_full, still_speaks}
 use Rattle.request_loop.proofs.NoReply.{no_reply}
 use Rattle.request_loop.proofs.hear.hear_row.Goals as goal
 

@@ -1,6 +1,6 @@
-use Rattle.std.proofs.Common.{◌≡◌, ◌≢◌, ◌∙◌, [], List, ℕ, Bool, true, false, Option, Some, None, sym, ap, subst}
+use Rattle.std.proofs.Common.{◌≡◌, ◌≢◌, ◌∙◌, [], List, ℕ, Bool, true, false, Option, Some, sym, ap, subst}
 use Rattle.std.specs.Prelude.{IsTrue, ◌↔◌}
-use Rattle.byte_lines.specs.Lines.{line_of, lines_after}
+use Rattle.byte_lines.specs.Lines.{lines_after}
 use Rattle.byte_lines.proofs.Streams.{lines_after-end, lines_after-no_bytes}
 use Rattle.request_loop.specs.Serving.{SoFar}
 use Rattle.request_loop.proofs.serve.serve_last.Goals as goal

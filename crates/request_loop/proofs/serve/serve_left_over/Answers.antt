@@ -1,6 +1,6 @@
-use Rattle.std.proofs.Common.{◌+◌, ◌∙◌, sym, subst}
+use Rattle.std.proofs.Common.{◌∙◌, sym, subst}
 use Rattle.request_loop.specs.Serving.{HasAnswered}
-use Rattle.request_loop.proofs.LeftOver.{nothing_left, counted, one_left_over, one_unwritten, fewer_read}
+use Rattle.request_loop.proofs.LeftOver.{nothing_left, counted, one_left_over, one_unwritten}
 use Rattle.request_loop.proofs.serve.serve_left_over.Goals as goal
 
 pub returns-in_default-clause-served : goal.returns-in_default-clause-served

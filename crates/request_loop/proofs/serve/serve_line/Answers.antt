@@ -1,8 +1,7 @@
-use Rattle.std.proofs.Common.{◌∙◌, ◌+◌, ◌∷◌, sym, subst, arith}
+use Rattle.std.proofs.Common.{◌∙◌, ◌+◌, sym, subst, arith}
 use Rattle.std.specs.Prelude.{option_map, IfSome, length, ◌≤◌}
 use Rattle.request_loop.proofs.Lines.{shown_is_short}
 use Rattle.byte_lines.specs.Lines.{line_of}
-use Rattle.request_loop.specs.Heard.{IsHeard}
 use Rattle.request_loop.specs.Serving.{SoFar, HasQuit}
 use Rattle.request_loop.proofs.OneLine.{over, passed, answered, quits, unprinted, stopped, counted, an_answer, no_answer, a_stop}
 use Rattle.request_loop.proofs.serve.serve_line.Goals as goal

@@ -1,8 +1,7 @@
-use Rattle.std.proofs.Common.{◌∙◌, ◌≡◌, ◌-◌, ◌++◌, [], None, Some, List, ℕ, take, sym, ap, subst, arith, refl, rules, length-append, append_assoc}
-use Rattle.plan_schema.specs.Outside.{extended, TookFront}
+use Rattle.std.proofs.Common.{◌∙◌, ◌≡◌, ◌++◌, [], None, Some, take, sym, ap, subst, arith, refl, rules, length-append, append_assoc}
 use Rattle.plan_schema.proofs.Writes.{extended_nil}
 use Rattle.byte_lines.specs.declared.rounds.Served.TheVariants as ends
-use Rattle.request_loop.specs.Serving.{HasServed, Going, SoFar}
+use Rattle.request_loop.specs.Serving.{Going, SoFar}
 use Rattle.byte_lines.specs.Lines.{lines_after}
 use Rattle.request_loop.proofs.Going.{not_nameless, is_guest, begin, written, ends_short, no_sink_end, piece_more, behind_piece, bytes_behind, lines_behind, at_end}
 use Rattle.request_loop.proofs.Exits.{by_last, by_stop, over_bytes, quit_within, last_within}

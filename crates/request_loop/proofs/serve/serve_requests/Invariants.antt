@@ -1,4 +1,4 @@
-use Rattle.std.proofs.Common.{◌≡◌, ◌≤◌, ℕ, List, false}
+use Rattle.std.proofs.Common.{◌≡◌, ◌≤◌, false}
 use Rattle.request_loop.specs.Gathered.{AreBegun}
 use Rattle.request_loop.specs.Serving.{Going}
 use Rattle.request_loop.proofs.serve.serve_requests.Given as goal

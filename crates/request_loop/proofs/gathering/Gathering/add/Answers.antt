@@ -1,4 +1,3 @@
-use Rattle.std.proofs.Common.{◌+◌}
 use Rattle.std.specs.Prelude.{option_map}
 use Rattle.request_loop.proofs.KeptRows.{row_added}
 use Rattle.request_loop.proofs.gathering.Gathering.add.Goals as goal

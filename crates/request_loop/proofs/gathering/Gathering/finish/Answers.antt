@@ -1,4 +1,3 @@
-use Rattle.std.specs.Prelude.{◌∷◌}
 use Rattle.std.proofs.Common.{refl}
 use Rattle.std.specs.List.{filter_map}
 use Rattle.std.specs.Result.{result_ok}

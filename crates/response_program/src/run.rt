@@ -13,11 +13,9 @@ use byte_lines::{Served, Shelf, ShelfFault, SinkFault, write_all};
 use plan_book::Book;
 use plan_import::import;
 use plan_journal::write_journal;
-use plan_schema::{Contents, Steps};
+use plan_schema::Contents;
 use sessions::serve_alone;
 use std::alloc::Global;
-use std::marker::Brand;
-use std::sync::ledger::{Blank, Ledger};
 
 /// The name of the console.
 const CONSOLE: &str = "-";
@@ -38,7 +36,7 @@ pub fn response<H: Shelf>(alloc: Global, words: &[String], shelf: &mut H) -> u8
         → HasRefused (view H.held H.open_faults H.read_faults H.write_faults shelf.old) (view H.held H.open_faults H.read_faults H.write_faults shelf.new) result }
 {
     match read_words(words) {
-        Some(names) => counted::<Brand, H>(alloc, &names, shelf, Blank::new(1)),
+        Some(names) => run_told(alloc, &names, shelf),
         None => refuse(shelf),
     }
 }
@@ -60,38 +58,23 @@ fn refuse<H: Shelf>(shelf: &mut H) -> u8
     }
 }
 
-/// A run, with a counter of its own.
-fn counted<L: Ledger, H: Shelf>(
-    alloc: Global,
-    names: &RunWords<'_>,
-    shelf: &mut H,
-    blank: Blank,
-) -> u8
-    requires name { blank.name ≡ L.name }
-    requires parts { blank.parts ≡ L.parts }
-    requires one { blank.parts ≡ 1 }
-    requires differ { Differ (names_of names.now) }
+/// A run, with the console told how it ended.
+fn run_told<H: Shelf>(alloc: Global, names: &RunWords<'_>, shelf: &mut H) -> u8
+    requires { Differ (names_of names.now) }
     ensures { HasResponded (view H.held H.open_faults H.read_faults H.write_faults shelf.old) (view H.held H.open_faults H.read_faults H.write_faults shelf.new) (names_of names.now) result }
 {
-    let (book, share) = blank.open::<L>();
-    let mut steps = Steps::new(book, share);
     let mut console = match shelf.make_out(CONSOLE) {
         Ok(console) => console,
         Err(fault) => return Ending::of_open(CONSOLE, fault).status(),
     };
-    let ending = run(alloc, names, shelf, &mut steps);
+    let ending = run(alloc, names, shelf);
     let told = ending.tell(&mut console);
     shelf.give_out(CONSOLE, console);
     ending.and_written(CONSOLE, told).status()
 }
 
 /// Reads the base, and runs over it.
-fn run<'a, L: Ledger, H: Shelf>(
-    alloc: Global,
-    names: &RunWords<'a>,
-    shelf: &mut H,
-    steps: &mut Steps<L>,
-) -> Ending<'a>
+fn run<'a, H: Shelf>(alloc: Global, names: &RunWords<'a>, shelf: &mut H) -> Ending<'a>
     requires { Differ (names_of names.now) }
     ensures { HasRun (view H.held H.open_faults H.read_faults H.write_faults shelf.old) (view H.held H.open_faults H.read_faults H.write_faults shelf.new) (names_of names.now) (outcome_of result) }
 {
@@ -102,18 +85,17 @@ fn run<'a, L: Ledger, H: Shelf>(
     let imported = import(alloc, &mut source);
     shelf.give_in(names.base, source);
     match imported {
-        Ok(contents) => run_book(alloc, names, contents, shelf, steps),
+        Ok(contents) => run_book(alloc, names, contents, shelf),
         Err(fault) => Ending::of_import(names.base, fault),
     }
 }
 
 /// Begins a book with the records of the base, and runs over it.
-fn run_book<'a, L: Ledger, H: Shelf>(
+fn run_book<'a, H: Shelf>(
     alloc: Global,
     names: &RunWords<'a>,
     contents: Contents,
     shelf: &mut H,
-    steps: &mut Steps<L>,
 ) -> Ending<'a>
     requires base { is_base contents ≡ true }
     requires differ { Differ (names_of names.now) }
@@ -122,19 +104,18 @@ fn run_book<'a, L: Ledger, H: Shelf>(
     let begun = Book::begin(alloc, &contents);
     drop(contents);
     match begun {
-        Ok(mut book) => run_over(alloc, names, &mut book, shelf, steps),
+        Ok(mut book) => run_over(alloc, names, &mut book, shelf),
         Err(_) => Ending::Memory,
     }
 }
 
 /// Makes the journal, runs the session, and writes the entries, whatever the session came to. Where it couldn't begin, the journal
 /// stays empty.
-fn run_over<'a, L: Ledger, H: Shelf>(
+fn run_over<'a, H: Shelf>(
     alloc: Global,
     names: &RunWords<'a>,
     book: &mut Book,
     shelf: &mut H,
-    steps: &mut Steps<L>,
 ) -> Ending<'a>
     requires empty { book.old.entries ≡ [] }
     requires differ { Differ (names_of names.now) }
@@ -144,7 +125,7 @@ fn run_over<'a, L: Ledger, H: Shelf>(
         Ok(journal) => journal,
         Err(fault) => return Ending::of_open(names.journal, fault),
     };
-    let served = match run_desk(alloc, names, book, shelf, steps) {
+    let served = match run_desk(alloc, names, book, shelf) {
         Ok(served) => served,
         Err(ending) => {
             shelf.give_out(names.journal, journal);
@@ -161,12 +142,11 @@ fn run_over<'a, L: Ledger, H: Shelf>(
 }
 
 /// Opens the input, and serves its session.
-fn run_desk<'a, L: Ledger, H: Shelf>(
+fn run_desk<'a, H: Shelf>(
     alloc: Global,
     names: &RunWords<'a>,
     book: &mut Book,
     shelf: &mut H,
-    steps: &mut Steps<L>,
 ) -> Result<Served, Ending<'a>>
     requires { book.old.entries ≡ [] }
     ensures kept { book.new.base ≡ book.old.base }
@@ -177,18 +157,17 @@ fn run_desk<'a, L: Ledger, H: Shelf>(
         Ok(source) => source,
         Err(fault) => return Err(Ending::of_open(names.input, fault)),
     };
-    let served = serve_desk(alloc, names, book, shelf, steps, &mut source);
+    let served = serve_desk(alloc, names, book, shelf, &mut source);
     shelf.give_in(names.input, source);
     served
 }
 
 /// Makes the output, and serves the session of an input.
-fn serve_desk<'a, L: Ledger, H: Shelf>(
+fn serve_desk<'a, H: Shelf>(
     alloc: Global,
     names: &RunWords<'a>,
     book: &mut Book,
     shelf: &mut H,
-    steps: &mut Steps<L>,
     source: &mut H::In,
 ) -> Result<Served, Ending<'a>>
     requires { book.old.entries ≡ [] }
@@ -200,7 +179,7 @@ fn serve_desk<'a, L: Ledger, H: Shelf>(
         Ok(sink) => sink,
         Err(fault) => return Err(Ending::of_open(names.output, fault)),
     };
-    let served = serve_alone(alloc, book, 1, true, steps, source, &mut sink);
+    let served = serve_alone(alloc, book, 1, true, source, &mut sink);
     shelf.give_out(names.output, sink);
     Ok(served)
 }

@@ -27,14 +27,15 @@ use Rattle.plan_book.specs.declared.fault.BookFault.{BookFault}
 use Rattle.plan_book.specs.declared.fault.BookFault.TheVariants as faults
 use Rattle.plan_book.specs.Answers.{IsChangeAnswer, refusal_of, told, IsAccepted, IsRefused, IsFailed}
 use Rattle.command_words.specs.declared.command.Command.{Command}
-use Rattle.session_rules.specs.Requests.{Wish, Makes, Asks, wish_of}
+use Rattle.command_words.specs.declared.command.Command.TheVariants as commands
+use Rattle.session_rules.specs.Requests.{Wish, Makes, Asks}
 use Rattle.sessions.specs.Answered.{IsAnswered}
 use Rattle.session_rules.specs.Answers.{change_reply, change_answer}
-use Rattle.session_rules.specs.Sessions.{IsMadeReply, IsReplyTo}
+use Rattle.session_rules.specs.Sessions.{IsMadeReply, IsReplyTo, needs_no_memory}
 use Rattle.session_rules.specs.Runs.{accepted_entry, accepted_point}
 use Rattle.sessions.specs.declared.terms.Terms.{Terms}
 use Rattle.sessions.specs.Serving.{IsAlone}
-use Rattle.sessions.specs.Changes.{IsPlainChange, AnswersIn}
+use Rattle.sessions.specs.Replied.{is_plain_change, AnswersIn, MayAnswer}
 use Rattle.sessions.proofs.NoBills.{with_one, without_one}
 
 -- one more entry --------------------------------------------------------------------------------------------------------------------
@@ -94,7 +95,7 @@ del_at_root c user s key is = ap (λ n. step (begin_with c) user (changes.Del n 
 
 module _ (base : Contents) (entries : List Entry) (h : IsAlone base entries) where
   -- the root stays alone, and has no bills
-  stays_alone : (entry : Entry) → IsPlainChange entry.change → refused base entries entry.user entry.change ≡ None → IsAlone base (entries ++ entry ∷ [])
+  stays_alone : (entry : Entry) → is_plain_change entry.change ≡ true → refused base entries entry.user entry.change ≡ None → IsAlone base (entries ++ entry ∷ [])
   stays_alone entry plain allowed = by_change entry.change refl plain
     where
       then : world_after base (entries ++ entry ∷ []) ≡ step (begin_with h.contents) entry.user entry.change
@@ -103,7 +104,7 @@ module _ (base : Contents) (entries : List Entry) (h : IsAlone base entries) whe
       names_root : named entry.change ≡ root
       names_root = at_the_root h.contents entries entry.user entry.change base h.alone allowed
 
-      by_change : (change : Change) → entry.change ≡ change → IsPlainChange change → IsAlone base (entries ++ entry ∷ [])
+      by_change : (change : Change) → entry.change ≡ change → is_plain_change change ≡ true → IsAlone base (entries ++ entry ∷ [])
       by_change (changes.Put s key value) is one =
           record {
             contents = with_record h.contents key value;
@@ -116,62 +117,58 @@ module _ (base : Contents) (entries : List Entry) (h : IsAlone base entries) whe
             alone = then ∙ ap (λ change. step (begin_with h.contents) entry.user change) is ∙ del_at_root h.contents entry.user s key (sym (ap named is) ∙ names_root);
             plain = without_one h.contents key h.plain;
           }
-      by_change (changes.Load s rows) is one = absurd one
-      by_change (changes.Branch s child) is one = absurd one
-      by_change (changes.Share s) is one = absurd one
-      by_change (changes.Update s) is one = absurd one
-      by_change (changes.Commit s) is one = absurd one
-      by_change (changes.Drop s) is one = absurd one
+      by_change (changes.Load s rows) is one = cc
+      by_change (changes.Branch s child) is one = cc
+      by_change (changes.Share s) is one = cc
+      by_change (changes.Update s) is one = cc
+      by_change (changes.Commit s) is one = cc
+      by_change (changes.Drop s) is one = cc
 
 -- answers -----------------------------------------------------------------------------------------------------------------------------
+
+module _ (terms : Terms) (began : Ground) (old new : Story) (user : Name) (line : ℕ) (alone : IsAlone began.base (history began old)) where
+  -- a reply that enters nothing
+  pub unentered : (wish : Wish) (reply : Reply) → new ≡ old → ((floor last : ℕ) → floor ≤ length (history began old) → last ≤ length (history began old) → IsReplyTo terms.may_change began.base (history began old) terms.session floor last user line wish reply)
+      → accepted_entry terms.session line user wish reply ≡ [] → accepted_point wish reply ≡ [] → AnswersIn terms began old new user line wish reply
+  unentered wish reply same legal none no_point =
+      let kept : history began new ≡ history began old = ap (history began) same in
+      record {
+        legal = λ floor last low few. subst (λ entries. IsReplyTo terms.may_change began.base entries terms.session floor last user line wish reply) (sym kept) (legal floor last low few);
+        entered = kept ∙ sym (ap (λ more. history began old ++ more) none ∙ append-nil (history began old));
+        numbered = no_point ∙ sym (ap (λ more. range_with_len (length (history began old) + 1) (length more)) none);
+        alone = subst (IsAlone began.base) (sym kept) alone;
+      }
 
 module _ (terms : Terms) (began : Ground) (old new : Story) (user : Name) (line : ℕ) (change : Change) (alone : IsAlone began.base (history began old)) where
   abbrev entry : Entry
   entry = entry_for terms.session line user change
 
   -- an accepted change
-  pub accepted : (point : ℕ) → terms.may_change ≡ true → IsPlainChange change → IsAccepted began old new entry point → AnswersIn terms began old new user line (Makes change) (replies.Ok point)
-  accepted point may plain h begun =
+  pub accepted : (point : ℕ) → terms.may_change ≡ true → is_plain_change change ≡ true → IsAccepted began old new entry point → AnswersIn terms began old new user line (Makes change) (replies.Ok point)
+  accepted point may plain h =
       let more : history began new ≡ history began old ++ entry ∷ [] = grown began old new entry h.entered in
       let counted : point ≡ length (history began old) + 1 = h.number_is ∙ ap length more ∙ length-append (history began old) (entry ∷ []) in
       let place : point - 1 ≡ length (history began old) = omega (arith, counted) in
       record {
-        legal = λ last before so_far.
-            subst (λ b. IsMadeReply b began.base (history began new) terms.session (length (history began begun)) last user b line change (replies.Ok point)) (sym may)
+        legal = λ floor last low few.
+            subst (λ b. IsMadeReply b began.base (history began new) terms.session floor last user b line change (replies.Ok point)) (sym may)
             (record {
-              in_order = record { later = omega (arith, counted, so_far); within = omega (arith, h.number_is) };
-              entry = record { above = omega (arith, counted, before); entry = ap (λ entries. slice_get entries (point - 1)) more ∙ ap (slice_get (history began old ++ entry ∷ [])) place ∙ last_one (history began old) entry };
+              in_order = record { later = omega (arith, counted, few); within = omega (arith, h.number_is) };
+              entry = record { above = omega (arith, counted, low); entry = ap (λ entries. slice_get entries (point - 1)) more ∙ ap (slice_get (history began old ++ entry ∷ [])) place ∙ last_one (history began old) entry };
             });
         entered = more;
         numbered = ap (λ n. n ∷ []) counted;
         alone = subst (IsAlone began.base) (sym more) (stays_alone began.base (history began old) alone entry plain h.allowed);
       }
 
-  -- a reply that enters nothing
-  unentered : (wish : Wish) (reply : Reply) → new ≡ old → ((begun : Story) (last : ℕ) → length (history began begun) ≤ length (history began old) → last ≤ length (history began old) → IsReplyTo terms.may_change began.base (history began old) terms.session (length (history began begun)) last user line wish reply)
-      → accepted_entry terms.session line user wish reply ≡ [] → accepted_point wish reply ≡ [] → AnswersIn terms began old new user line wish reply
-  unentered wish reply same legal none no_point begun =
-      let kept : history began new ≡ history began old = ap (history began) same in
-      record {
-        legal = λ last before so_far. subst (λ entries. IsReplyTo terms.may_change began.base entries terms.session (length (history began begun)) last user line wish reply) (sym kept) (legal begun last before so_far);
-        entered = kept ∙ sym (ap (λ more. history began old ++ more) none ∙ append-nil (history began old));
-        numbered = no_point ∙ sym (ap (λ more. range_with_len (length (history began old) + 1) (length more)) none);
-        alone = subst (IsAlone began.base) (sym kept) alone;
-      }
-
-  -- a reply to what is no change
-  pub same_answers : (wish : Wish) (reply : Reply) → new ≡ old → ((begun : Story) (last : ℕ) → length (history began begun) ≤ length (history began old) → last ≤ length (history began old) → IsReplyTo terms.may_change began.base (history began old) terms.session (length (history began begun)) last user line wish reply)
-      → accepted_entry terms.session line user wish reply ≡ [] → accepted_point wish reply ≡ [] → AnswersIn terms began old new user line wish reply
-  same_answers = unentered
-
   -- a refused change
   pub refused_change : (point : ℕ) (refusal : Refusal) → terms.may_change ≡ true → IsRefused began old new entry point refusal → AnswersIn terms began old new user line (Makes change) (replies.No point refusal)
   refused_change point refusal may h =
-      unentered (Makes change) (replies.No point refusal) h.same
-      (λ begun last before so_far.
-      subst (λ b. IsMadeReply b began.base (history began old) terms.session (length (history began begun)) last user b line change (replies.No point refusal)) (sym may)
+      unentered terms began old new user line alone (Makes change) (replies.No point refusal) h.same
+      (λ floor last low few.
+      subst (λ b. IsMadeReply b began.base (history began old) terms.session floor last user b line change (replies.No point refusal)) (sym may)
       (record {
-        in_order = record { later = omega (arith, h.point_is, so_far); within = omega (arith, h.point_is) };
+        in_order = record { later = omega (arith, h.point_is, few); within = omega (arith, h.point_is) };
         right = ap (λ n. change_answer began.base (take n (history began old)) user change) h.point_is
             ∙ ap (λ entries. change_answer began.base entries user change) (take-length (history began old))
             ∙ ap (change_reply (length (history began old))) h.first
@@ -181,22 +178,22 @@ module _ (terms : Terms) (began : Ground) (old new : Story) (user : Name) (line 
   -- a change without memory
   pub wanting : terms.may_change ≡ true → new ≡ old → AnswersIn terms began old new user line (Makes change) replies.Mem
   wanting may same =
-      unentered (Makes change) replies.Mem same
-      (λ begun last before so_far. subst (λ b. IsMadeReply b began.base (history began old) terms.session (length (history began begun)) last user b line change replies.Mem) (sym may) tt) refl refl
+      unentered terms began old new user line alone (Makes change) replies.Mem same
+      (λ floor last low few. subst (λ b. IsMadeReply b began.base (history began old) terms.session floor last user b line change replies.Mem) (sym may) tt) refl refl
 
   -- where nothing can be changed
   pub read_only : (point : ℕ) → terms.may_change ≡ false → new ≡ old → point ≡ point_of began old → AnswersIn terms began old new user line (Makes change) (replies.No point refusals.ReadOnly)
   read_only point may same is =
-      unentered (Makes change) (replies.No point refusals.ReadOnly) same
-      (λ begun last before so_far. subst (λ b. IsMadeReply b began.base (history began old) terms.session (length (history began begun)) last user b line change (replies.No point refusals.ReadOnly)) (sym may)
-      (record { later = omega (arith, is, so_far); within = omega (arith, is) })) refl refl
+      unentered terms began old new user line alone (Makes change) (replies.No point refusals.ReadOnly) same
+      (λ floor last low few. subst (λ b. IsMadeReply b began.base (history began old) terms.session floor last user b line change (replies.No point refusals.ReadOnly)) (sym may)
+      (record { later = omega (arith, is, few); within = omega (arith, is) })) refl refl
 
   -- a book that failed
-  pub failed : (faults faults_then : ℕ) → terms.may_change ≡ true → IsPlainChange change → IsFailed began old new entry faults faults_then
-      → (history began new ≡ history began old) ⊎ AnswersIn terms began old new user line (Makes change) (replies.Ok (length (history began new)))
+  pub failed : (faults faults_then : ℕ) → terms.may_change ≡ true → is_plain_change change ≡ true → IsFailed began old new entry faults faults_then
+      → MayAnswer terms began old new user line (Makes change)
   failed faults faults_then may plain h = by_either h.either
     where
-      by_either : (new ≡ old) ⊎ ((refusal_of began old entry ≡ None) × (new ≡ told old entry)) → (history began new ≡ history began old) ⊎ AnswersIn terms began old new user line (Makes change) (replies.Ok (length (history began new)))
+      by_either : (new ≡ old) ⊎ ((refusal_of began old entry ≡ None) × (new ≡ told old entry)) → MayAnswer terms began old new user line (Makes change)
       by_either (inl same) = inl (ap (history began) same)
       by_either (inr more) = inr (accepted (length (history began new)) may plain (record { allowed = more.0; entered = more.1; number_is = refl }))
 
@@ -210,15 +207,17 @@ pub failed_by : {began : Ground} {before after : Story} {entry : Entry} (count t
 failed_by {began} {before} {after} {entry} count then fault is h = subst (λ f. IsChangeAnswer began before after count then entry (Err f)) is h
 
 -- the answer to a command that changes nothing, as a reply
-pub asked_answers : (terms : Terms) (began : Ground) (story : Story) (user : Name) (line : ℕ) (command : Command) (reply : Reply) → IsAlone began.base (history began story) → wish_of command ≡ Asks command
-    → IsAnswered began.base (history began story) user command reply → AnswersIn terms began story story user line (wish_of command) reply
-asked_answers terms began story user line command reply alone is h =
-    subst (λ wish. AnswersIn terms began story story user line wish reply) (sym is)
-    (same_answers terms began story story user line (changes.Share []) alone (Asks command) reply refl
-    (λ begun last before so_far. h terms.may_change terms.session (length (history began begun)) last so_far) refl refl)
+pub asked_answers : (terms : Terms) (began : Ground) (story : Story) (user : Name) (line : ℕ) (command : Command) (reply : Reply) → IsAlone began.base (history began story)
+    → IsAnswered began.base (history began story) user command reply → AnswersIn terms began story story user line (Asks command) reply
+asked_answers terms began story user line command reply alone h =
+    unentered terms began story story user line alone (Asks command) reply refl (λ floor last low few. h terms.may_change terms.session floor last few) refl refl
 
-pub no_fault : false ≡ true → ⊥
-no_fault is = cc
+-- a command for which there may be no memory
+pub may_want : (command : Command) → ((name : Name) → command ≡ commands.Hello name → ⊥) → (command ≡ commands.Point → ⊥) → (command ≡ commands.Quit → ⊥) → needs_no_memory command ≡ false
+may_want (commands.Hello name) hello point quit = absurd (hello name refl)
+may_want commands.Point hello point quit = absurd (point refl)
+may_want commands.Quit hello point quit = absurd (quit refl)
+may_want _ hello point quit = refl
 
 pub no_not : (b : Bool) → not b ≡ false → b ≡ true
 no_not true is = refl

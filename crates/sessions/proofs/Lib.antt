@@ -1,14 +1,10 @@
-pub mod Lines
 pub mod Inputs
 pub mod Sums
 pub mod WorkingDays
 pub mod Alone
 pub mod AtEnd
 pub mod Entered
-pub mod Answering
-pub mod OneMore
-pub mod LineByLine
-pub mod Reading
+pub mod FromChain
+pub mod Ended
 pub mod PlanLines
 pub mod NoBills
-pub mod Requested

@@ -10,11 +10,10 @@ use Rattle.std.specs.Cmp.Lexicographic.{pointwise}
 use Rattle.std.proofs.lemmas.Bool.{and_parts, and_from}
 use Rattle.plan_schema.specs.declared.fault.FieldFault.{FieldFault}
 use Rattle.plan_schema.specs.declared.key.Key.{Key}
-use Rattle.plan_schema.specs.declared.key.Key.TheVariants as keys
 use Rattle.plan_schema.specs.declared.key.Record.{Record}
 use Rattle.plan_schema.specs.Key.{key_cmp}
 use Rattle.plan_schema.specs.Contents.{Contents, with_record, without_key}
-use Rattle.row_text.specs.Row.{◌>>=◌, text_at, text_of_field, name_at, day_at, days_at, number_at, end_at, week_at, lot_at, calendar_at, plan_of, cal_of, holiday_of, part_of, stock_of, demand_of, receipt_of, bill_of, row_of_table, row_of, one_name, two_names, holiday_key_of, bill_key_of, key_of_table, key_of}
+use Rattle.row_text.specs.Row.{◌>>=◌, text_at, text_of_field, name_at, day_at, days_at, number_at, end_at, week_at, lot_at, calendar_at, plan_of, cal_of, holiday_of, part_of, stock_of, demand_of, receipt_of, bill_of, row_of_table, row_of}
 use Rattle.row_text.specs.Open.{is_closed_word, open_row_of}
 use Rattle.sessions.specs.Plans.{is_bill, has_no_bills}
 
@@ -24,9 +23,6 @@ NoBill key read = IfOk read (λ row. not (is_bill (key row)) ≡ true)
 
 abbrev pub row_key : Key × Record → Key
 row_key row = row.0
-
-abbrev pub itself : Key → Key
-itself key = key
 
 later : {A B : Type 0} (key : B → Key) (first : Result A FieldFault) (f : A → Result B FieldFault) → ((x : A) → NoBill key (f x)) → NoBill key (first >>= f)
 unfolding NoBill
@@ -85,33 +81,7 @@ table_none word fields accepted =
     (either row_key (pointwise nat_eq word (codes "DEMAND")) _ _ (demand_none fields)
     (either row_key (pointwise nat_eq word (codes "RECEIPT")) _ _ (receipt_none fields) (by_word row_key _ (bill_of fields) (pointwise nat_eq word (codes "BILL")) accepted)))))))
 
-told : (k : Key) → not (is_bill k) ≡ true → NoBill itself (Ok k)
-unfolding NoBill
-told k is = is
-
-one_name_none : (fields : List (List ℕ)) (key : List ℕ → Key) → ((name : List ℕ) → not (is_bill (key name)) ≡ true) → NoBill itself (one_name fields key)
-unfolding one_name
-one_name_none fields key h = later itself (name_at fields 1) _ (λ name. later itself (end_at fields 2) _ (λ none. told (key name) (h name)))
-
-two_names_none : (fields : List (List ℕ)) (key : List ℕ → List ℕ → Key) → ((part order : List ℕ) → not (is_bill (key part order)) ≡ true) → NoBill itself (two_names fields key)
-unfolding two_names
-two_names_none fields key h = later itself (name_at fields 1) _ (λ part. later itself (name_at fields 2) _ (λ order. later itself (end_at fields 3) _ (λ none. told (key part order) (h part order))))
-
-holiday_key_none : (fields : List (List ℕ)) → NoBill itself (holiday_key_of fields)
-unfolding NoBill holiday_key_of
-holiday_key_none fields = later itself (name_at fields 1) _ (λ calendar. later itself (day_at fields 2) _ (λ day. later itself (end_at fields 3) _ (λ none. refl)))
-
-key_table_none : (word : List ℕ) (fields : List (List ℕ)) → pointwise nat_eq word (codes "BILL") ≡ false → NoBill itself (key_of_table word fields)
-unfolding key_of_table
-key_table_none word fields accepted =
-    either itself (pointwise nat_eq word (codes "CAL")) _ _ (one_name_none fields keys.Cal (λ name. refl))
-    (either itself (pointwise nat_eq word (codes "HOLIDAY")) _ _ (holiday_key_none fields)
-    (either itself (pointwise nat_eq word (codes "PART")) _ _ (one_name_none fields keys.Part (λ name. refl))
-    (either itself (pointwise nat_eq word (codes "STOCK")) _ _ (one_name_none fields keys.Stock (λ name. refl))
-    (either itself (pointwise nat_eq word (codes "DEMAND")) _ _ (two_names_none fields keys.Demand (λ part order. refl))
-    (either itself (pointwise nat_eq word (codes "RECEIPT")) _ _ (two_names_none fields keys.Receipt (λ part order. refl)) (by_word itself _ (bill_key_of fields) (pointwise nat_eq word (codes "BILL")) accepted))))))
-
--- a row, and a key form, whose table word isn't a bill's
+-- a row whose table word isn't a bill's
 pub row_none : (fields : List (List ℕ)) → is_closed_word (slice_get fields 0) ≡ false → NoBill row_key (row_of fields)
 unfolding NoBill row_of text_at
 row_none fields h = by_first (slice_get fields 0) h
@@ -119,14 +89,6 @@ row_none fields h = by_first (slice_get fields 0) h
     by_first : (first : Option (List ℕ)) → is_closed_word first ≡ false → NoBill row_key (text_of_field 0 first >>= (λ word. row_of_table word fields))
     by_first None open_word = tt
     by_first (Some word) open_word = table_none word fields open_word
-
-pub key_none : (fields : List (List ℕ)) → is_closed_word (slice_get fields 0) ≡ false → NoBill itself (key_of fields)
-unfolding NoBill key_of text_at
-key_none fields h = by_first (slice_get fields 0) h
-  where
-    by_first : (first : Option (List ℕ)) → is_closed_word first ≡ false → NoBill itself (text_of_field 0 first >>= (λ word. key_of_table word fields))
-    by_first None open_word = tt
-    by_first (Some word) open_word = key_table_none word fields open_word
 
 no_row : (fault : FieldFault) → NoBill row_key (Err fault)
 unfolding NoBill

@@ -2,10 +2,9 @@ pub mod Ends
 pub mod Orders
 pub mod Calendars
 pub mod Plans
-pub mod Opened
 pub mod Answered
 pub mod Serving
-pub mod Changes
+pub mod Replied
 pub use Rattle.plan_schema.specs.Outside
 pub use Rattle.planning_rules.specs.Plan
 pub use Rattle.session_rules.specs.Sessions

@@ -1,14 +1,13 @@
 //! Sessions over one book: requests are read line by line, and each gets its reply.
 #![tactic(auto)]
 
-mod answer;
 mod calendars;
 mod command_reply;
 mod orders;
+mod over_book;
 mod plan_reply;
 mod planning;
 mod records;
-mod request;
 mod serve;
 mod terms;
 

@@ -16,17 +16,15 @@ use crate::planning::{PlanFault, plan_part};
 use crate::records::horizon_in;
 use command_words::{Lines, Reply};
 use plan_book::{BookFault, PlanBook};
-use plan_schema::{Contents, Day, Name, Outcome, Qty, Steps};
+use plan_schema::{Contents, Day, Name, Outcome, Qty};
 use row_text::{RowText, push_number};
 use std::alloc::{AllocError, Global};
-use std::sync::ledger::Ledger;
 
 /// What the question for a part's plan is answered at the end of a book.
-pub fn plan_answer<B: PlanBook, L: Ledger>(
+pub fn plan_answer<B: PlanBook>(
     alloc: Global,
     book: &B,
     user: &Name,
-    steps: &mut Steps<L>,
     scenario: &Name,
     part: &Name,
 ) -> Reply
@@ -34,7 +32,7 @@ pub fn plan_answer<B: PlanBook, L: Ledger>(
         → IsAnswered (B.basis book.now).base (history (B.basis book.now) (B.story book.now)) user.now (commands.Plan scenario.now part.now) result }
 {
     match book.read(user, scenario) {
-        Ok((point, contents)) => plan_reply(alloc, contents, steps, point, part),
+        Ok((point, contents)) => plan_reply(alloc, contents, point, part),
         Err(fault) => barred(fault),
     }
 }
@@ -50,17 +48,11 @@ fn barred(fault: BookFault) -> Reply
 }
 
 /// The lines of a part's plan, or why it has none, with the point of the records.
-fn plan_reply<L: Ledger>(
-    alloc: Global,
-    contents: &Contents,
-    steps: &mut Steps<L>,
-    point: u64,
-    part: &Name,
-) -> Reply
+fn plan_reply(alloc: Global, contents: &Contents, point: u64, part: &Name) -> Reply
     requires { is_base contents.now ≡ true }
     ensures { has_no_bills contents.now ≡ true → IsPlanReply contents.now point part.now result }
 {
-    match plan_part(alloc, contents, part, steps) {
+    match plan_part(alloc, contents, part) {
         Ok(outcome) => match plan_lines(alloc, contents, &outcome) {
             Ok(lines) => Reply::Rows(point, lines),
             Err(_) => Reply::Mem,

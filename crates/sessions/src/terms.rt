@@ -7,7 +7,3 @@ pub struct Terms {
     pub session: u64,
     pub may_change: bool,
 }
-
-/// The book failed.
-#[derive(Clone, Copy)]
-pub struct BookFailed;

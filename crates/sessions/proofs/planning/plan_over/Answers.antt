@@ -9,8 +9,8 @@ use Rattle.sessions.specs.Orders.{totals_of}
 use Rattle.sessions.proofs.Alone.{no_calendar, planned, too_large, same_input, from_large, no_memory}
 use Rattle.sessions.proofs.planning.plan_over.Goals as goal
 
-pub net-requires : goal.net-requires
-net-requires g c =
+pub net_once-requires-clause-within : goal.net_once-requires-clause-within
+net_once-requires-clause-within c =
     let limits = part_limits c.args.part.now c.in-Part.lead c.in-Part.lot c.in-Part.safety c.in-Part.calendar (ap (is_sound_row (keys.Part c.args.part.now)) (sym c.in-Part.is) ∙ c.requires.sound) in
     let days = ap length c.in_ok-totals.ensures ∙ totals_length kinds.Demand c.args.contents.now c.args.part.now c.args.start.now c.args.days in
     let sched_days = ap length c.in_ok-totals-2.ensures ∙ totals_length kinds.Receipt c.args.contents.now c.args.part.now c.args.start.now c.args.days in
@@ -29,12 +29,12 @@ net-requires g c =
     }
 
 pub returns-in_default-2 : goal.returns-in_default-2
-returns-in_default-2 g c h =
+returns-in_default-2 c h =
     no_calendar c.args.contents.now c.args.part.now c.in-Part.lead c.in-Part.lot c.in-Part.safety c.in-Part.calendar h (c.requires.row ∙ ap Some c.in-Part.is)
     (from_lack _ _ (sym c.in_default-2.is ∙ c.in_ok-calendar.ensures))
 
 pub returns-in-Ok : goal.returns-in-Ok
-returns-in-Ok g c h =
+returns-in-Ok c h =
     let limits = part_limits c.args.part.now c.in-Part.lead c.in-Part.lot c.in-Part.safety c.in-Part.calendar (ap (is_sound_row (keys.Part c.args.part.now)) (sym c.in-Part.is) ∙ c.requires.sound) in
     let found = from_found _ _ _ (sym c.in-Some.is ∙ c.in_ok-calendar.ensures) in
     planned c.args.contents.now c.args.part.now c.in-Part.lead c.in-Part.lot c.in-Part.safety c.in-Part.calendar h (c.requires.row ∙ ap Some c.in-Part.is) found.0 (has_step c.in-Part.lot limits.lot_sound)
@@ -45,7 +45,7 @@ returns-in-Ok g c h =
     c.in-Ok.outcome c.in-Ok.ensures.netted c.in-Ok.ensures.outcome c.in-Ok.ensures.fits
 
 pub returns-in-Err-TooLarge : goal.returns-in-Err-TooLarge
-returns-in-Err-TooLarge g c h =
+returns-in-Err-TooLarge c h =
     let limits = part_limits c.args.part.now c.in-Part.lead c.in-Part.lot c.in-Part.safety c.in-Part.calendar (ap (is_sound_row (keys.Part c.args.part.now)) (sym c.in-Part.is) ∙ c.requires.sound) in
     let found = from_found _ _ _ (sym c.in-Some.is ∙ c.in_ok-calendar.ensures) in
     too_large c.args.contents.now c.args.part.now c.in-Part.lead c.in-Part.lot c.in-Part.safety c.in-Part.calendar h (c.requires.row ∙ ap Some c.in-Part.is) found.0 (has_step c.in-Part.lot limits.lot_sound)
@@ -56,10 +56,10 @@ returns-in-Err-TooLarge g c h =
     (from_large c.in-Err-TooLarge.field-0 c.in-Err-TooLarge.field-0-is c.in-Err-TooLarge.ensures.large)
 
 pub returns-in_err-calendar : goal.returns-in_err-calendar
-returns-in_err-calendar g c h = no_memory c.args.contents.now c.args.part.now c.from_residual.result c.from_residual.ensures.0 c.from_residual.ensures.1
+returns-in_err-calendar c h = no_memory c.args.contents.now c.args.part.now c.from_residual.result c.from_residual.ensures.0 c.from_residual.ensures.1
 
 pub returns-in_err-totals : goal.returns-in_err-totals
-returns-in_err-totals g c h = no_memory c.args.contents.now c.args.part.now c.from_residual-in_err-totals.result c.from_residual-in_err-totals.ensures.0 c.from_residual-in_err-totals.ensures.1
+returns-in_err-totals c h = no_memory c.args.contents.now c.args.part.now c.from_residual-in_err-totals.result c.from_residual-in_err-totals.ensures.0 c.from_residual-in_err-totals.ensures.1
 
 pub returns-in_err-totals-2 : goal.returns-in_err-totals-2
-returns-in_err-totals-2 g c h = no_memory c.args.contents.now c.args.part.now c.from_residual-in_err-totals-2.result c.from_residual-in_err-totals-2.ensures.0 c.from_residual-in_err-totals-2.ensures.1
+returns-in_err-totals-2 c h = no_memory c.args.contents.now c.args.part.now c.from_residual-in_err-totals-2.result c.from_residual-in_err-totals-2.ensures.0 c.from_residual-in_err-totals-2.ensures.1

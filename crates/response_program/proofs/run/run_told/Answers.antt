@@ -10,7 +10,7 @@ use Rattle.response_program.proofs.Chains.{opened, gave_out, both_fell, cause_la
 use Rattle.response_program.proofs.Desks.{kept_or_empty}
 use Rattle.response_program.proofs.Overs.{written_done, written_long, written_refused, written_of_base, written_opened, written_cause, written_told, written_cut}
 use Rattle.response_program.proofs.Headline.{still_done, still_short, held_tells}
-use Rattle.response_program.proofs.run.counted.Goals as goal
+use Rattle.response_program.proofs.run.run_told.Goals as goal
 
 pub returns : goal.returns
 returns g c =
@@ -27,7 +27,7 @@ returns g c =
     let before = both_fell old mid late making c.run-ending.ensures.none_fell in
     let failed = λ (is : written ≡ Err sinks.Failed). rose_after (old.writes console) (late.writes console) (new.writes console) (before.writes console)
     (counted_rose console late.writes new.writes (g.H.Out.Sink.faults c.in-Ok.console) (g.H.Out.Sink.faults c.tell-told.new.console) c.in-Ok.ensures.fresh (c.tell-told.ensures.cause.failed is) c.give_out.ensures.count) in
-    let apart = c.requires.differ in
+    let apart = c.requires in
     record {
       outcome = final;
       status_is = c.status-2.ensures.value ∙ ap status_of c.and_written.ensures;

@@ -1,0 +1,50 @@
+use Rattle.std.proofs.Common.{◌≡◌, inl, inr, Some, length, arith, get_or, refl, sym, ◌∙◌, ap, true, false}
+use Rattle.std.specs.Prelude.{slice_get}
+use Rattle.plan_schema.specs.declared.name.Name.{Name}
+use Rattle.plan_schema.specs.Key.{name_eq}
+use Rattle.planning_rules.proofs.LevelLaws.{same_name}
+use Rattle.low_level_codes.specs.Graphs.{marked}
+use Rattle.low_level_codes.specs.Numbers.{holds}
+use Rattle.low_level_codes.proofs.Places.{marked_at, never, marked_inside}
+use Rattle.low_level_codes.proofs.Ancestors.{beyond}
+use Rattle.low_level_codes.proofs.Finding.{ascending, found_more, found_here, found_one, has_more}
+use Rattle.low_level_codes.proofs.ancestry.marked_names.Goals as goal
+
+pub loop-place-preserved-then-not-seen-place : goal.loop-place-preserved-then-not-seen-place
+loop-place-preserved-then-not-seen-place c =
+    let at : marked c.args.seen.now c.loop-place.place ≡ false = marked_at c.args.seen.now c.loop-place.place (get_or c.args.seen.now c.loop-place.place false) false c.loop-place-test.true refl ∙ c.if-not-seen-place.true in
+    record {
+      has = has_more c.args.names.now c.args.seen.now c.loop-place.found.keys c.loop-place.place c.loop-place.invariant.has (λ n is h. never (sym at ∙ h));
+      only = c.loop-place.invariant.only;
+      order = c.loop-place.invariant.order;
+    }
+
+pub unreachable-requires : goal.unreachable-requires
+unreachable-requires c =
+    let past = beyond c.args.names.now c.loop-place.place (sym (c.in_default.ensures)) in
+    let same = c.requires in
+    let less = c.loop-place-test.true in
+    let long : length c.args.seen.now ≡ length c.args.names.now = c.requires in
+    omega arith
+
+pub loop-place-preserved : goal.loop-place-preserved
+loop-place-preserved c =
+    let name = c.in-Some.name.now in
+    let at : marked c.args.seen.now c.loop-place.place ≡ true = marked_at c.args.seen.now c.loop-place.place (get_or c.args.seen.now c.loop-place.place false) false c.loop-place-test.true refl ∙ c.if-not-seen-place.false in
+    let is : slice_get c.args.names.now c.loop-place.place ≡ Some name = sym c.in-Some.ensures in
+    let old = c.loop-place.found.keys in
+    let new = c.insert.new.self.keys in
+    let there = λ (n : Name). c.in_ok-insert.ensures.updates.0 n in
+    record {
+      has = has_more c.args.names.now c.args.seen.now new c.loop-place.place
+          (λ k n l s h. found_more (name_eq name n) (holds new n) (holds old n) (there n) (c.loop-place.invariant.has k n l s h))
+          (λ n s h. found_here (name_eq name n) (holds new n) (holds old n) (there n) (let same : Some name ≡ Some n = sym is ∙ s in let one : name ≡ n = cc in ap (name_eq name) (sym one) ∙ same_name name));
+      only = λ n h. elim (found_one name n (holds new n) (holds old n) (there n) h) [
+        | inl was ↦ c.loop-place.invariant.only n was
+        | inr same ↦ (c.loop-place.place, is ∙ ap Some same, at)
+      ];
+      order = ascending new c.in_ok-insert.ensures.ordered;
+    }
+
+pub returns-clause-has : goal.returns-clause-has
+returns-clause-has c = λ k n is h. c.loop-place.invariant.has k n (let less = marked_inside c.args.seen.now k h in let more = c.loop-place-test.false in omega arith) is h

@@ -1,0 +1,118 @@
+//! Low-level codes.
+ghost use Rattle.std.specs.Prelude.{◌≡◌, ◌<◌, ℕ, List, true, length, None, Some, IfOk, IfErr, slice_get, MatchOption, Contains, map};
+ghost use Rattle.plan_schema.specs.declared.name.Name.{Name};
+ghost use Rattle.planning_rules.specs.Refused.{least_name, is_cyclic};
+ghost use Rattle.low_level_codes.specs.Graphs.{level_at, shown, AreWithin};
+ghost use Rattle.low_level_codes.specs.Levels.{as_records, are_ascending, AreClosed, AreLevels, are_by_level};
+ghost use Rattle.low_level_codes.specs.Owns.{NoneOwn, FirstOwn};
+ghost use Rattle.low_level_codes.specs.Faults.{WhereCyclic};
+ghost use Rattle.low_level_codes.specs.Numbers.{StandAt, HoldsLevels, LacksLevel};
+
+use crate::fault::LevelFault;
+use crate::graph::Graph;
+use crate::placing::place;
+use crate::reach::reach;
+use plan_schema::Name;
+use std::alloc::{AllocError, Global};
+use std::collections::BTreeSet;
+
+/// Names with the levels of their places, where all have one.
+fn with_levels(
+    alloc: Global,
+    levels: &[Option<usize>],
+    places: &[usize],
+    names: &[Name],
+) -> Result<Option<BTreeSet<(usize, Name)>>, AllocError>
+    requires long { length places.now ≡ length names.now }
+    requires inside { (i q : ℕ) → slice_get places.now i ≡ Some q → q < length levels.now }
+    ensures { IfOk result (λ found. MatchOption found (LacksLevel levels.now places.now)
+        (λ found. HoldsLevels levels.now places.now names.now found.keys)) }
+{
+    let mut found = BTreeSet::new(alloc);
+    for at in 0..names.len() {
+        let Some(level) = levels[places[at]] else {
+            return Ok(None);
+        };
+        found.insert((level, names[at]))?;
+    }
+    Ok(Some(found))
+}
+
+/// The first of some names without levels, from above and from below, that is above itself: a search upward from each comes back to
+/// it or not.
+fn first_own(
+    alloc: Global,
+    ups: &[Vec<usize>],
+    levels: &[Option<usize>],
+    heights: &[Option<usize>],
+    places: &[usize],
+    names: &[Name],
+) -> Result<Option<Name>, AllocError>
+    requires graph { AreWithin (length ups.now) (shown ups.now) }
+    requires whole { length levels.now ≡ length ups.now }
+    requires heights { length heights.now ≡ length ups.now }
+    requires long { length places.now ≡ length names.now }
+    requires inside { (i q : ℕ) → slice_get places.now i ≡ Some q → q < length ups.now }
+    ensures { IfOk result (λ own. MatchOption own
+        (NoneOwn (shown ups.now) levels.now heights.now places.now (length names.now))
+        (FirstOwn (shown ups.now) levels.now heights.now places.now names.now)) }
+{
+    for at in 0..names.len() {
+        let place = places[at];
+        if levels[place].is_some() {
+            continue;
+        }
+        if heights[place].is_some() {
+            continue;
+        }
+        let seen = reach(alloc, ups, ups[place].as_slice())?;
+        if seen[place] {
+            return Ok(Some(names[at]));
+        }
+    }
+    Ok(None)
+}
+
+/// Pairs in order, each turned round.
+fn turned(
+    alloc: Global,
+    mut found: BTreeSet<(usize, Name)>,
+) -> Result<Vec<(Name, usize)>, AllocError>
+    ensures { IfOk result (λ levels. levels.items ≡ map (λ pair. (pair.1, pair.0)) found.keys) }
+{
+    let mut levels = Vec::new(alloc);
+    while let Some((level, name)) = found.pop_first() {
+        levels.push((name, level))?;
+    }
+    Ok(levels)
+}
+
+/// The low-level codes of names that hold the parents of each of them: pairs of a name and its level, by level and then by name. A
+/// bill is a pair of a component and a parent of it. Where some name is its own ancestor, none gets a level: the fault says which.
+pub fn levels(
+    alloc: Global,
+    bills: &[(Name, Name)],
+    names: &[Name],
+) -> Result<Vec<(Name, usize)>, LevelFault>
+    requires ascending { are_ascending names.now ≡ true }
+    requires closed { AreClosed bills.now names.now }
+    ensures levels { IfOk result (λ levels. AreLevels bills.now names.now levels.items) }
+    ensures cyclic { IfErr result (WhereCyclic bills.now names.now) }
+{
+    let mut graph = Graph::of(alloc, bills)?;
+    let places = graph.places_of(alloc, names)?;
+    let ups = graph.ups.as_slice();
+    let downs = graph.downs.as_slice();
+    let places = places.as_slice();
+    let placed = place(alloc, ups, downs)?;
+    let placed = placed.as_slice();
+    if let Some(found) = with_levels(alloc, placed, places, names)? {
+        let levels = turned(alloc, found)?;
+        return Ok(levels);
+    }
+    let heights = place(alloc, downs, ups)?;
+    let heights = heights.as_slice();
+    let own = first_own(alloc, ups, placed, heights, places, names)?;
+    let Some(name) = own else { unreachable!() };
+    Err(LevelFault::Cyclic(name))
+}

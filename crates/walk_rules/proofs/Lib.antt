@@ -1,0 +1,10 @@
+pub mod Local
+pub mod PlanLocal
+pub mod Worked
+pub mod RightLaws
+pub mod Fronted
+pub mod KeptRight
+pub mod PutRight
+pub mod TookRight
+pub mod WorkLaws
+pub mod Growth

@@ -28,7 +28,7 @@ use Rattle.request_loop.proofs.Chained.{chain_more}
 use Rattle.sessions.specs.declared.terms.Terms.{Terms}
 use Rattle.sessions.specs.Ends.{BookEnding}
 use Rattle.sessions.specs.Serving.{Setting, setting, IsAlone, HasAnswered, IsServed, IsServedShort, Serves}
-use Rattle.sessions.specs.Replied.{Stops, AnswersIn, MayAnswer}
+use Rattle.sessions.specs.Replied.{Stops, IsRepliedIn, MayBeReplied}
 use Rattle.sessions.proofs.FromChain.{gives, known, Keeps, Fits, chain_keeps, chain_answers, chain_fits}
 
 -- the text of some replies
@@ -188,10 +188,10 @@ module _ {B : Type 0} (story : B → Story) (faults : B → ℕ) (basis : B → 
       -- a change that was entered, though the book failed at it
       entered_short : (log : List Exchange) (last : B) (why : Why) → IsChain (gives story faults basis terms) old guest log last
           → (h : loop.HasStopped (gives story faults basis terms) stops last new log (requests_of input) before after why)
-          → AnswersIn terms (basis last) (story last) (story new) (speaker guest log) h.request.line h.request.wish (replies.Ok (length (history (basis last) (story new)))) → IsServedShort s entries input before after
+          → IsRepliedIn terms (basis last) (story last) (story new) (speaker guest log) h.request.line h.request.wish (replies.Ok (length (history (basis last) (story new)))) → IsServedShort s entries input before after
       entered_short log last why chain h it =
           let x : Exchange = record { request = h.request; reply = replies.Ok (length (history (basis last) (story new))) } in
-          let given : gives story faults basis terms last (speaker guest log) h.request x.reply new = record { kept = h.stopped.kept; later = h.stopped.later; answers = λ there. it } in
+          let given : gives story faults basis terms last (speaker guest log) h.request x.reply new = record { kept = h.stopped.kept; later = h.stopped.later; replied = λ there. it } in
           let step : IsStep (gives story faults basis terms) last (speaker guest log) h.request x.reply new =
           subst (λ wish. IsStepFor (gives story faults basis terms) last (speaker guest log) h.request wish x.reply new) (sym h.stopped.makes) (inl given) in
           let more : IsChain (gives story faults basis terms) old guest (log ++ x ∷ []) new = chain_more (gives story faults basis terms) log old last new guest x chain step in
@@ -210,7 +210,7 @@ module _ {B : Type 0} (story : B → Story) (faults : B → ℕ) (basis : B → 
           there : IsAlone (basis last).base (history (basis last) (story last))
           there = subst (λ b. IsAlone b.base (history b (story last))) (sym fits.kept) fits.alone
 
-          by_either : MayAnswer terms (basis last) (story last) (story new) (speaker guest log) h.request.line h.request.wish → IsServedShort s entries input before after
+          by_either : MayBeReplied terms (basis last) (story last) (story new) (speaker guest log) h.request.line h.request.wish → IsServedShort s entries input before after
           by_either (inl same) =
               from_printed s entries input before after log (h.request ∷ h.later) h.asked printed
               (answered_at log last chain (sym (subst (λ b. history b (story new) ≡ history b (story last)) fits.kept same)))

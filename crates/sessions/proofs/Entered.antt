@@ -35,7 +35,7 @@ use Rattle.session_rules.specs.Sessions.{IsMadeReply, IsReplyTo, needs_no_memory
 use Rattle.session_rules.specs.Runs.{accepted_entry, accepted_point}
 use Rattle.sessions.specs.declared.terms.Terms.{Terms}
 use Rattle.sessions.specs.Serving.{IsAlone}
-use Rattle.sessions.specs.Replied.{is_plain_change, AnswersIn, MayAnswer}
+use Rattle.sessions.specs.Replied.{is_plain_change, IsRepliedIn, MayBeReplied}
 use Rattle.sessions.proofs.NoBills.{with_one, without_one}
 
 -- one more entry --------------------------------------------------------------------------------------------------------------------
@@ -129,7 +129,7 @@ module _ (base : Contents) (entries : List Entry) (h : IsAlone base entries) whe
 module _ (terms : Terms) (began : Ground) (old new : Story) (user : Name) (line : ℕ) (alone : IsAlone began.base (history began old)) where
   -- a reply that enters nothing
   pub unentered : (wish : Wish) (reply : Reply) → new ≡ old → ((floor last : ℕ) → floor ≤ length (history began old) → last ≤ length (history began old) → IsReplyTo terms.may_change began.base (history began old) terms.session floor last user line wish reply)
-      → accepted_entry terms.session line user wish reply ≡ [] → accepted_point wish reply ≡ [] → AnswersIn terms began old new user line wish reply
+      → accepted_entry terms.session line user wish reply ≡ [] → accepted_point wish reply ≡ [] → IsRepliedIn terms began old new user line wish reply
   unentered wish reply same legal none no_point =
       let kept : history began new ≡ history began old = ap (history began) same in
       record {
@@ -144,7 +144,7 @@ module _ (terms : Terms) (began : Ground) (old new : Story) (user : Name) (line 
   entry = entry_for terms.session line user change
 
   -- an accepted change
-  pub accepted : (point : ℕ) → terms.may_change ≡ true → is_plain_change change ≡ true → IsAccepted began old new entry point → AnswersIn terms began old new user line (Makes change) (replies.Ok point)
+  pub accepted : (point : ℕ) → terms.may_change ≡ true → is_plain_change change ≡ true → IsAccepted began old new entry point → IsRepliedIn terms began old new user line (Makes change) (replies.Ok point)
   accepted point may plain h =
       let more : history began new ≡ history began old ++ entry ∷ [] = grown began old new entry h.entered in
       let counted : point ≡ length (history began old) + 1 = h.number_is ∙ ap length more ∙ length-append (history began old) (entry ∷ []) in
@@ -162,7 +162,7 @@ module _ (terms : Terms) (began : Ground) (old new : Story) (user : Name) (line 
       }
 
   -- a refused change
-  pub refused_change : (point : ℕ) (refusal : Refusal) → terms.may_change ≡ true → IsRefused began old new entry point refusal → AnswersIn terms began old new user line (Makes change) (replies.No point refusal)
+  pub refused_change : (point : ℕ) (refusal : Refusal) → terms.may_change ≡ true → IsRefused began old new entry point refusal → IsRepliedIn terms began old new user line (Makes change) (replies.No point refusal)
   refused_change point refusal may h =
       unentered terms began old new user line alone (Makes change) (replies.No point refusal) h.same
       (λ floor last low few.
@@ -176,13 +176,13 @@ module _ (terms : Terms) (began : Ground) (old new : Story) (user : Name) (line 
       })) refl refl
 
   -- a change without memory
-  pub wanting : terms.may_change ≡ true → new ≡ old → AnswersIn terms began old new user line (Makes change) replies.Mem
+  pub wanting : terms.may_change ≡ true → new ≡ old → IsRepliedIn terms began old new user line (Makes change) replies.Mem
   wanting may same =
       unentered terms began old new user line alone (Makes change) replies.Mem same
       (λ floor last low few. subst (λ b. IsMadeReply b began.base (history began old) terms.session floor last user b line change replies.Mem) (sym may) tt) refl refl
 
   -- where nothing can be changed
-  pub read_only : (point : ℕ) → terms.may_change ≡ false → new ≡ old → point ≡ point_of began old → AnswersIn terms began old new user line (Makes change) (replies.No point refusals.ReadOnly)
+  pub read_only : (point : ℕ) → terms.may_change ≡ false → new ≡ old → point ≡ point_of began old → IsRepliedIn terms began old new user line (Makes change) (replies.No point refusals.ReadOnly)
   read_only point may same is =
       unentered terms began old new user line alone (Makes change) (replies.No point refusals.ReadOnly) same
       (λ floor last low few. subst (λ b. IsMadeReply b began.base (history began old) terms.session floor last user b line change (replies.No point refusals.ReadOnly)) (sym may)
@@ -190,10 +190,10 @@ module _ (terms : Terms) (began : Ground) (old new : Story) (user : Name) (line 
 
   -- a book that failed
   pub failed : (faults faults_then : ℕ) → terms.may_change ≡ true → is_plain_change change ≡ true → IsFailed began old new entry faults faults_then
-      → MayAnswer terms began old new user line (Makes change)
+      → MayBeReplied terms began old new user line (Makes change)
   failed faults faults_then may plain h = by_either h.either
     where
-      by_either : (new ≡ old) ⊎ ((refusal_of began old entry ≡ None) × (new ≡ told old entry)) → MayAnswer terms began old new user line (Makes change)
+      by_either : (new ≡ old) ⊎ ((refusal_of began old entry ≡ None) × (new ≡ told old entry)) → MayBeReplied terms began old new user line (Makes change)
       by_either (inl same) = inl (ap (history began) same)
       by_either (inr more) = inr (accepted (length (history began new)) may plain (record { allowed = more.0; entered = more.1; number_is = refl }))
 
@@ -208,7 +208,7 @@ failed_by {began} {before} {after} {entry} count then fault is h = subst (λ f. 
 
 -- the answer to a command that changes nothing, as a reply
 pub asked_answers : (terms : Terms) (began : Ground) (story : Story) (user : Name) (line : ℕ) (command : Command) (reply : Reply) → IsAlone began.base (history began story)
-    → IsAnswered began.base (history began story) user command reply → AnswersIn terms began story story user line (Asks command) reply
+    → IsAnswered began.base (history began story) user command reply → IsRepliedIn terms began story story user line (Asks command) reply
 asked_answers terms began story user line command reply alone h =
     unentered terms began story story user line alone (Asks command) reply refl (λ floor last low few. h terms.may_change terms.session floor last few) refl refl
 

@@ -21,7 +21,7 @@ use Rattle.request_loop.specs.Legal.{signed, AreGood, IsAloneThere}
 use Rattle.request_loop.proofs.Legal.{chains_are_legal, chains_are_pinned}
 use Rattle.sessions.specs.declared.terms.Terms.{Terms}
 use Rattle.sessions.specs.Serving.{setting, IsAlone, HasAnswered}
-use Rattle.sessions.specs.Replied.{Answers, Gives}
+use Rattle.sessions.specs.Replied.{IsReplied, Gives}
 use Rattle.sessions.proofs.Entered.{unentered}
 
 -- an answer's point is the number of entries behind its request -------------------------------------------------------------
@@ -30,7 +30,7 @@ one_entered : (point n : ℕ) → ◌≡◌ {A = List ℕ} (point ∷ []) ((n + 
 one_entered point n is = cc
 
 module _ (terms : Terms) (base : Contents) (old new : List Entry) (user : Name) (line : ℕ) where
-  none_more : (wish : Wish) (reply : Reply) → Answers terms base old new user line wish reply → accepted_entry terms.session line user wish reply ≡ [] → point_after (length new) reply ≡ length new
+  none_more : (wish : Wish) (reply : Reply) → IsReplied terms base old new user line wish reply → accepted_entry terms.session line user wish reply ≡ [] → point_after (length new) reply ≡ length new
   none_more wish reply it none =
       let same : length new ≡ length old = ap length it.entered ∙ ap (λ more. length (old ++ more)) none ∙ ap length (append-nil old) in
       let request : Request = record { line = line; wish = wish } in
@@ -40,7 +40,7 @@ module _ (terms : Terms) (base : Contents) (old new : List Entry) (user : Name) 
       let here : point_after (length old) reply ≡ length old = omega (arith, high, low, same) in
       subst (λ n. point_after n reply ≡ n) (sym same) here
 
-  pinned_at : (wish : Wish) (reply : Reply) → Answers terms base old new user line wish reply → point_after (length new) reply ≡ length new
+  pinned_at : (wish : Wish) (reply : Reply) → IsReplied terms base old new user line wish reply → point_after (length new) reply ≡ length new
   pinned_at (Makes change) (replies.Ok point) it =
       let more = length-append old (record { session = terms.session; line = line; user = user; change = change } ∷ []) in
       let all = ap length it.entered in
@@ -54,12 +54,12 @@ module _ (terms : Terms) (base : Contents) (old new : List Entry) (user : Name) 
   pinned_at (IsBad bad) reply it = none_more (IsBad bad) reply it refl
 
   -- and an accepted change's is above all before
-  rises_at : (wish : Wish) (reply : Reply) → Answers terms base old new user line wish reply → IsRising (length old) (accepted_point wish reply) (length new)
+  rises_at : (wish : Wish) (reply : Reply) → IsReplied terms base old new user line wish reply → IsRising (length old) (accepted_point wish reply) (length new)
   rises_at wish reply it =
       let grown : length new ≡ length old + length (accepted_entry terms.session line user wish reply) = ap length it.entered ∙ length-append old (accepted_entry terms.session line user wish reply) in
       by_entry wish reply it grown
     where
-      by_entry : (wish : Wish) (reply : Reply) → Answers terms base old new user line wish reply → length new ≡ length old + length (accepted_entry terms.session line user wish reply) → IsRising (length old) (accepted_point wish reply) (length new)
+      by_entry : (wish : Wish) (reply : Reply) → IsReplied terms base old new user line wish reply → length new ≡ length old + length (accepted_entry terms.session line user wish reply) → IsRising (length old) (accepted_point wish reply) (length new)
       by_entry (Makes change) (replies.Ok point) it grown = let is = one_entered point (length old) it.numbered in (omega (arith, is), omega (arith, is, grown))
       by_entry (Makes change) (replies.Rows point lines) it grown = omega (arith, grown)
       by_entry (Makes change) (replies.No point refusal) it grown = omega (arith, grown)
@@ -139,28 +139,28 @@ module _ {B : Type 0} (story : B → Story) (faults : B → ℕ) (basis : B → 
     abbrev own : B → List (ℕ × Entry)
     own book = signed (known book)
 
-    abbrev Replied : B → B → Name → ℕ → Wish → Reply → Type 0
-    Replied old new user line wish reply = Answers terms (basis first).base (known old) (known new) user line wish reply
+    abbrev ReplyHere : B → B → Name → ℕ → Wish → Reply → Type 0
+    ReplyHere old new user line wish reply = IsReplied terms (basis first).base (known old) (known new) user line wish reply
 
-    given_answers : (old new : B) (user : Name) (request : Request) (reply : Reply) → Fits old → gives old user request reply new → Replied old new user request.line request.wish reply
+    given_answers : (old new : B) (user : Name) (request : Request) (reply : Reply) → Fits old → gives old user request reply new → ReplyHere old new user request.line request.wish reply
     given_answers old new user request reply fits h =
-        subst (λ b. IsAlone b.base (history b (story old)) → Answers terms b.base (history b (story old)) (history b (story new)) user request.line request.wish reply) fits.kept h.answers fits.alone
+        subst (λ b. IsAlone b.base (history b (story old)) → IsReplied terms b.base (history b (story old)) (history b (story new)) user request.line request.wish reply) fits.kept h.replied fits.alone
 
-    rowless_answers : (old new : B) (user : Name) (line : ℕ) (change : Change) (reply : Reply) → Fits old → IsRowless gives old new change reply → Replied old new user line (Makes change) reply
+    rowless_answers : (old new : B) (user : Name) (line : ℕ) (change : Change) (reply : Reply) → Fits old → IsRowless gives old new change reply → ReplyHere old new user line (Makes change) reply
     rowless_answers old new user line change reply fits h =
-        subst (λ r. Replied old new user line (Makes change) r) (sym h.reply_is)
+        subst (λ r. ReplyHere old new user line (Makes change) r) (sym h.reply_is)
         (unentered terms (basis first) (story old) (story new) user line fits.alone (Makes change) replies.Mem (ap story h.same) (λ floor last low few. by_terms terms.may_change floor last) refl refl)
       where
         by_terms : (b : Bool) (floor last : ℕ) → IsMadeReply b (basis first).base (known old) terms.session floor last user b line change replies.Mem
         by_terms true floor last = tt
         by_terms false floor last = h.load
 
-    step_answers : (old new : B) (user : Name) (line : ℕ) (wish : Wish) (reply : Reply) → Fits old → IsStep gives old user (record { line = line; wish = wish }) reply new → Replied old new user line wish reply
+    step_answers : (old new : B) (user : Name) (line : ℕ) (wish : Wish) (reply : Reply) → Fits old → IsStep gives old user (record { line = line; wish = wish }) reply new → ReplyHere old new user line wish reply
     step_answers old new user line (Makes change) reply fits (inl given) = given_answers old new user (record { line = line; wish = Makes change }) reply fits given
     step_answers old new user line (Makes change) reply fits (inr rowless) = rowless_answers old new user line change reply fits rowless
     step_answers old new user line (Asks command) reply fits given = given_answers old new user (record { line = line; wish = Asks command }) reply fits given
     step_answers old new user line (IsBad bad) reply fits told =
-        subst (λ r. Replied old new user line (IsBad bad) r) (sym told.reply_is)
+        subst (λ r. ReplyHere old new user line (IsBad bad) r) (sym told.reply_is)
         (unentered terms (basis first) (story old) (story new) user line fits.alone (IsBad bad) (replies.Bad bad) (ap story told.same) (λ floor last low few. refl) refl refl)
 
     good : AreGood gives Fits known own terms.may_change (basis first).base terms.session

@@ -32,19 +32,19 @@ pub record IsNumbered (terms : Terms) : Type 0 where
 
 -- A reply to a request, at the entries before it and those behind it: it is legal, whatever floor and last point the session has, and
 -- what is entered is the entry of an accepted change, at its number; and the root stays alone.
-pub record Answers (terms : Terms) (base : Contents) (old new : List Entry) (user : Name) (line : ℕ) (wish : Wish) (reply : Reply) : Type 0 where
+pub record IsReplied (terms : Terms) (base : Contents) (old new : List Entry) (user : Name) (line : ℕ) (wish : Wish) (reply : Reply) : Type 0 where
   pub legal : (floor last : ℕ) → floor ≤ length old → last ≤ length old → IsReplyTo terms.may_change base new terms.session floor last user line wish reply
   pub entered : new ≡ old ++ accepted_entry terms.session line user wish reply
   pub numbered : accepted_point wish reply ≡ numbers_behind (length old) (length (accepted_entry terms.session line user wish reply))
   pub alone : IsAlone base new
 
 -- the same at the stories of a book
-abbrev pub AnswersIn : Terms → Ground → Story → Story → Name → ℕ → Wish → Reply → Type 0
-AnswersIn terms began old new user line wish reply = Answers terms began.base (history began old) (history began new) user line wish reply
+abbrev pub IsRepliedIn : Terms → Ground → Story → Story → Name → ℕ → Wish → Reply → Type 0
+IsRepliedIn terms began old new user line wish reply = IsReplied terms began.base (history began old) (history began new) user line wish reply
 
 -- the entries are as before, or those that an accepted change leaves
-abbrev pub MayAnswer : Terms → Ground → Story → Story → Name → ℕ → Wish → Type 0
-MayAnswer terms began old new user line wish = (history began new ≡ history began old) ⊎ AnswersIn terms began old new user line wish (replies.Ok (length (history began new)))
+abbrev pub MayBeReplied : Terms → Ground → Story → Story → Name → ℕ → Wish → Type 0
+MayBeReplied terms began old new user line wish = (history began new ≡ history began old) ⊎ IsRepliedIn terms began old new user line wish (replies.Ok (length (history began new)))
 
 -- the meanings of the book come first
 module _ {B : Type 0} (story : B → Story) (faults : B → ℕ) (basis : B → Ground) (terms : Terms) where
@@ -52,7 +52,7 @@ module _ {B : Type 0} (story : B → Story) (faults : B → ℕ) (basis : B → 
   pub record Gives (old new : B) (user : Name) (request : Request) (reply : Reply) : Type 0 where
     pub kept : basis new ≡ basis old
     pub later : faults old ≤ faults new
-    pub answers : IsAlone (basis old).base (history (basis old) (story old)) → AnswersIn terms (basis old) (story old) (story new) user request.line request.wish reply
+    pub replied : IsAlone (basis old).base (history (basis old) (story old)) → IsRepliedIn terms (basis old) (story old) (story new) user request.line request.wish reply
 
   -- the book failed at a change, which may have been entered; its count of faults rose
   pub record Stops (old new : B) (user : Name) (request : Request) (why : Why) : Type 0 where
@@ -62,4 +62,4 @@ module _ {B : Type 0} (story : B → Story) (faults : B → ℕ) (basis : B → 
     pub rose : Rose (faults old) (faults new)
     pub change : Change
     pub makes : request.wish ≡ Makes change
-    pub either : IsAlone (basis old).base (history (basis old) (story old)) → MayAnswer terms (basis old) (story old) (story new) user request.line request.wish
+    pub either : IsAlone (basis old).base (history (basis old) (story old)) → MayBeReplied terms (basis old) (story old) (story new) user request.line request.wish

@@ -15,8 +15,8 @@ use plan_schema::{Change, Key, Name, Refusal};
 use request_loop::Why;
 use std::alloc::Global;
 
-/// The reply to a change of this user in a line of the session. One that isn't refused is entered; for one that isn't served yet there
-/// is said to be no memory.
+/// The reply to a change of this user in a line of the session. One that isn't refused is entered, and one that isn't served yet is told
+/// that there is no memory.
 pub fn reply_to_change<B: PlanBook>(
     terms: Terms,
     book: &mut B,
@@ -52,13 +52,12 @@ fn is_plain(change: &Change) -> bool
     ensures single { result ≡ true → is_of_one_record change.now ≡ true }
 {
     match change {
-        Change::Put { key, .. } => !matches!(key, Key::Bill { .. }),
-        Change::Del { key, .. } => !matches!(key, Key::Bill { .. }),
+        Change::Put { key, .. } | Change::Del { key, .. } => !matches!(key, Key::Bill { .. }),
         _ => false,
     }
 }
 
-/// The answer to a command that changes nothing; for one that isn't served yet there is said to be no memory.
+/// The answer to a command that changes nothing. One that isn't served yet is told that there is no memory.
 #[tactic(auto, unfolding(session_rules::specs::Answers::answer))]
 pub fn reply_to_question<B: PlanBook>(
     alloc: Global,

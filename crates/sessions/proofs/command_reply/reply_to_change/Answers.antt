@@ -7,7 +7,7 @@ returns-in-Ok-clause-ok g c =
     record {
       kept = c.change.ensures.kept;
       later = c.change.ensures.later;
-      answers = λ alone.
+      replied = λ alone.
           accepted c.args.terms (g.B.Storied.basis c.args.book.now) (g.B.Storied.story c.args.book.now) (g.B.Storied.story c.change.new.self) c.args.user.now c.args.line c.args.change alone
           c.in-Ok.point (no_not c.args.terms.may_change c.if-not-terms.false) (sym c.is_plain.ensures.value ∙ c.if-not-is_plain.false)
           c.in-Ok.ensures.answer;
@@ -18,7 +18,7 @@ returns-in-Err-Refused-clause-ok g c =
     record {
       kept = c.change.ensures.kept;
       later = c.change.ensures.later;
-      answers = λ alone.
+      replied = λ alone.
           refused_change c.args.terms (g.B.Storied.basis c.args.book.now) (g.B.Storied.story c.args.book.now) (g.B.Storied.story c.change.new.self) c.args.user.now c.args.line c.args.change alone
           c.in-Err-Refused.point c.in-Err-Refused.refusal (no_not c.args.terms.may_change c.if-not-terms.false) (refused_by _ _ _ c.in-Err-Refused.field-0-is c.in-Err-Refused.ensures.answer);
     }

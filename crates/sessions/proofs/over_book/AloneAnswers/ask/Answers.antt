@@ -7,7 +7,7 @@ returns-clause-ok g c =
     record {
       kept = refl;
       later = omega arith;
-      answers = λ alone.
+      replied = λ alone.
           asked_answers c.args.self.now.terms (g.B.Storied.basis c.args.book.now) (g.B.Storied.story c.args.book.now) c.args.user.now c.args._line c.args.command.now c.reply_to_question.result
           alone (c.reply_to_question.ensures alone);
     }

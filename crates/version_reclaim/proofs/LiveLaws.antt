@@ -1,0 +1,107 @@
+-- Sets of ids that are collected scenario by scenario.
+use Rattle.std.proofs.Common.{◌≡◌, ℕ, zero, suc, ◌+◌, ◌<◌, ◌≤◌, List, [], ◌∷◌, length, refl, sym, ◌∙◌, ap, subst, Bool, true, false, cond, inl, inr, arith}
+use Rattle.std.specs.Prelude.{Option, Some, None, IsSome, unwrap_or}
+use Rattle.std.specs.Option.{option_map}
+use Rattle.std.specs.List.{slice_get}
+use Rattle.std.specs.Ordering.{is_eq}
+use Rattle.std.specs.Cmp.{tied_itself}
+use Rattle.std.proofs.lemmas.Bool.{cases_lt}
+use Rattle.std.proofs.lemmas.Option.{slice_get_within}
+use Rattle.plan_schema.specs.declared.name.Name.{Name}
+use Rattle.plan_schema.specs.declared.change.CellName.{CellName}
+use Rattle.plan_schema.specs.Key.{name_cmp}
+use Rattle.scenario_rules.specs.World.{World, Scenario, scenario_at}
+use Rattle.scenario_rules.proofs.Keys.{name_total, name_exact}
+use Rattle.record_versions.specs.declared.version.VersionId.{VersionId}
+use Rattle.record_versions.specs.Versions.{IdList, id_at, has_id, are_ordered_ids}
+use Rattle.record_versions.proofs.Same.{is_same}
+use Rattle.version_rules.specs.Ids.{ScenarioIds, side_ids}
+use Rattle.scenario_merge.specs.declared.forest.TreeRow.{TreeRow}
+use Rattle.scenario_merge.specs.Grown.{Grown, ids_in}
+use Rattle.scenario_merge.specs.Tree.{tree_row}
+use Rattle.version_reclaim.specs.Live.{IsIdOf, IsLiveIn, AreLive}
+use Rattle.version_reclaim.specs.Collected.{with_ids_of, IsWithScenario}
+use Rattle.version_reclaim.proofs.SetLaws.{all_keep, all_put, all_alone}
+
+-- the ids of a base and of contents, put one after the other
+module _ (ids : ScenarioIds) (base contents : IdList) (base_is : (cell : CellName) → id_at base cell ≡ ids.base cell) (contents_are : (cell : CellName) → id_at contents cell ≡ ids.contents cell) where
+  side_put : (old : List VersionId) (of_base : Bool) (cell : CellName) (id : VersionId) → side_ids of_base ids cell ≡ Some id → has_id (with_ids_of (with_ids_of old base) contents) id ≡ true
+  side_put old true cell id h = all_keep contents (with_ids_of old base) id (all_put base old cell id (base_is cell ∙ h))
+  side_put old false cell id h = all_put contents (with_ids_of old base) cell id (contents_are cell ∙ h)
+
+  pub both_put : (old : List VersionId) → are_ordered_ids base ≡ true → are_ordered_ids contents ≡ true → IsWithScenario ids old (with_ids_of (with_ids_of old base) contents)
+  both_put old base_ordered contents_ordered = record {
+    kept = λ id h. all_keep contents (with_ids_of old base) id (all_keep base old id h);
+    put = λ id of_it. side_put old of_it.of_base of_it.cell id of_it.has;
+    alone = λ id h. elim (all_alone contents (with_ids_of old base) id contents_ordered h) [
+      | inl before ↦ elim (all_alone base old id base_ordered before) [
+        | inl earlier ↦ inl earlier
+        | inr based ↦ inr (record { cell = based.0; of_base = true; has = sym (base_is based.0) ∙ based.1 })
+      ]
+      | inr held ↦ inr (record { cell = held.0; of_base = false; has = sym (contents_are held.0) ∙ held.1 })
+    ];
+  }
+
+-- the scenario whose row stands at a place
+pub row_of : (w : World) (place : ℕ) (row : TreeRow) → Some row ≡ option_map tree_row (slice_get w place) → (x : Scenario) × (slice_get w place ≡ Some (row.name, x))
+row_of w place row h = by_cases (slice_get w place) refl h
+  where
+    by_cases : (o : Option (Name × Scenario)) → slice_get w place ≡ o → Some row ≡ option_map tree_row o → (x : Scenario) × (slice_get w place ≡ Some (row.name, x))
+    by_cases None e k = absurd (let no : ⊥ = cc in no)
+    by_cases (Some entry) e k = let same = ap (λ (o : Option TreeRow). (unwrap_or o row).name) k in (entry.1, e ∙ (λ i. Some (sym same i, entry.1)))
+
+-- a scenario that stands at a place is there
+pub there_at : (w : World) (place : ℕ) (s : Name) (x : Scenario) → slice_get w place ≡ Some (s, x) → IsSome (scenario_at w s)
+there_at [] place s x h = absurd (let no : ⊥ = cc in no)
+there_at (e ∷ w) zero s x h =
+    let first : e.0 ≡ s = ap (λ (o : Option (Name × Scenario)). (unwrap_or o e).0) h in
+    subst (λ (k : Name). IsSome (scenario_at (e ∷ w) k)) first (subst IsSome (sym (ap (λ r. cond (is_eq r) (Some e.1) (scenario_at w e.0)) (tied_itself name_total e.0))) refl)
+there_at (e ∷ w) (suc place) s x h = by_cases (there_at w place s x h) (is_eq (name_cmp s e.0)) refl
+  where
+    by_cases : IsSome (scenario_at w s) → (t : Bool) → is_eq (name_cmp s e.0) ≡ t → IsSome (scenario_at (e ∷ w) s)
+    by_cases later true t = subst IsSome (sym (ap (λ b. cond b (Some e.1) (scenario_at w s)) t)) refl
+    by_cases later false t = subst IsSome (sym (ap (λ b. cond b (Some e.1) (scenario_at w s)) t)) later
+
+-- one that is there stands at a place
+pub place_of : (w : World) (s : Name) → IsSome (scenario_at w s) → (place : ℕ) × ((x : Scenario) × (slice_get w place ≡ Some (s, x)))
+place_of [] s h = absurd (let no : ⊥ = cc in no)
+place_of (e ∷ w) s h = by_cases (place_of w s) (is_eq (name_cmp s e.0)) refl
+  where
+    by_cases : (IsSome (scenario_at w s) → (place : ℕ) × ((x : Scenario) × (slice_get w place ≡ Some (s, x)))) → (t : Bool) → is_eq (name_cmp s e.0) ≡ t → (place : ℕ) × ((x : Scenario) × (slice_get (e ∷ w) place ≡ Some (s, x)))
+    by_cases later true t = let same = name_exact s e.0 (is_same (name_cmp s e.0) t) in (zero, (e.1, λ i. Some (sym same i, e.1)))
+    by_cases later false t = let rest = later (subst IsSome (ap (λ b. cond b (Some e.1) (scenario_at w s)) t) h) in (suc rest.0, rest.1)
+
+-- a set has the ids of the scenarios before a place, and only live ones
+pub record IsCollected (forest : Grown) (place : ℕ) (set : List VersionId) : Type 0 where
+  pub all : (k : ℕ) (s : Name) (x : Scenario) → k < place → slice_get forest.world k ≡ Some (s, x) → (id : VersionId) → IsIdOf (ids_in forest s) id → has_id set id ≡ true
+  pub alone : (id : VersionId) → has_id set id ≡ true → IsLiveIn forest id
+
+pub none_collected : (forest : Grown) → IsCollected forest 0 []
+none_collected forest = record { all = λ k s x less. absurd (omega arith); alone = λ id h. absurd (let no : ⊥ = cc in no) }
+
+pub one_collected : (forest : Grown) (place : ℕ) (old new : List VersionId) (s : Name) (x : Scenario) → slice_get forest.world place ≡ Some (s, x) → IsCollected forest place old → IsWithScenario (ids_in forest s) old new → IsCollected forest (place + 1) new
+one_collected forest place old new s x at before with_it = record { all = all; alone = alone }
+  where
+    here : (k : ℕ) (r : Name) (y : Scenario) → k ≡ place → slice_get forest.world k ≡ Some (r, y) → s ≡ r
+    here k r y same found = ap (λ (o : Option (Name × Scenario)). (unwrap_or o (s, x)).0) (sym at ∙ ap (slice_get forest.world) (sym same) ∙ found)
+
+    all : (k : ℕ) (r : Name) (y : Scenario) → k < place + 1 → slice_get forest.world k ≡ Some (r, y) → (id : VersionId) → IsIdOf (ids_in forest r) id → has_id new id ≡ true
+    all k r y less found id of_it = elim (cases_lt k place) [
+      | inl earlier ↦ with_it.kept id (before.all k r y earlier found id of_it)
+      | inr later ↦ with_it.put id (subst (λ (n : Name). IsIdOf (ids_in forest n) id) (sym (here k r y (omega arith) found)) of_it)
+    ]
+
+    alone : (id : VersionId) → has_id new id ≡ true → IsLiveIn forest id
+    alone id h = elim (with_it.alone id h) [
+      | inl earlier ↦ before.alone id earlier
+      | inr of_it ↦ record { scenario = s; there = there_at forest.world place s x at; of_it = of_it }
+    ]
+
+pub all_collected : (forest : Grown) (place : ℕ) (set : List VersionId) → length forest.world ≤ place → IsCollected forest place set → AreLive forest set
+all_collected forest place set whole collected = record { all = all; alone = collected.alone }
+  where
+    all : (id : VersionId) → IsLiveIn forest id → has_id set id ≡ true
+    all id live =
+        let found = place_of forest.world live.scenario live.there in
+        let within : found.0 < length forest.world = slice_get_within forest.world found.0 (live.scenario, found.1.0) found.1.1 in
+        collected.all found.0 live.scenario found.1.0 (omega arith) found.1.1 id live.of_it

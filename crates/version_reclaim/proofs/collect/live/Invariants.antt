@@ -1,0 +1,5 @@
+use Rattle.version_reclaim.proofs.LiveLaws.{IsCollected}
+use Rattle.version_reclaim.proofs.collect.live.Given as goal
+
+abbrev pub invariant-loop-place : goal.invariant-loop-place
+invariant-loop-place l = IsCollected l.forest l.place l.live

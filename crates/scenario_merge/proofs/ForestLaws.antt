@@ -21,7 +21,7 @@ use Rattle.scenario_rules.proofs.Keys.{name_total, name_exact}
 use Rattle.scenario_rules.proofs.Wholeness.{scenario_is, root_is}
 use Rattle.record_versions.specs.Versions.{CellList, id_at, cell_at}
 use Rattle.record_versions.proofs.Cells.{seen, seen_insert, seen_lookup}
-use Rattle.version_rules.specs.Ids.{CellIds, ScenarioIds, WorldIds, after_changes, with_changed_ids}
+use Rattle.version_rules.specs.Ids.{CellIds, ScenarioIds, WorldIds, no_ids, after_changes, with_changed_ids}
 use Rattle.version_rules.specs.Meaning.{Meaning, AreMeant, AreScenarioMeant, AreWorldMeant, Keep}
 use Rattle.version_rules.proofs.Meant.{all_kept}
 use Rattle.version_rules.proofs.StepMeans.{contents_after}
@@ -58,9 +58,17 @@ found_held m entries s x is = by_cases (held_at entries s) refl (sym (scenario_f
     by_cases None e k = absurd (let no : ⊥ = cc in no)
     by_cases (Some h) e k = (h, e, ap (λ o. unwrap_or o x) (sym k))
 
+-- a scenario that isn't held has no ids
+none_gone : (m : Meaning) (entries : Entries) (s : Name) → scenario_at (world_by m entries) s ≡ None → ids_of (table_of entries) s ≡ no_ids
+none_gone m entries s gone = ids_found entries s ∙ by_cases (held_at entries s) (sym (scenario_found m entries s) ∙ gone)
+  where
+    by_cases : (o : Option Held) → option_map (scenario_by m) o ≡ None → ids_where (option_map listed o) ≡ no_ids
+    by_cases None h = refl
+    by_cases (Some held) h = absurd (let no : ⊥ = cc in no)
+
 -- each id of a world whose forest holds means its cell
 pub forest_grown : (entries : Entries) (cells : CellList) → IsForest entries cells → IsGrown (grown entries cells)
-forest_grown entries cells forest = record { whole = forest.whole; meant = meant }
+forest_grown entries cells forest = record { whole = forest.whole; meant = meant; gone = none_gone (cell_at cells) entries }
   where
     meant : AreWorldMeant (cell_at cells) (world_by (cell_at cells) entries) (ids_of (table_of entries))
     meant s x is =

@@ -4,7 +4,7 @@ use Rattle.std.specs.Map.{lookup}
 use Rattle.std.specs.BTreeMap.{is_at}
 use Rattle.plan_schema.specs.declared.name.Name.{Name}
 use Rattle.plan_schema.specs.Key.{name_cmp}
-use Rattle.scenario_rules.specs.World.{OwnChanges, World}
+use Rattle.scenario_rules.specs.World.{OwnChanges, World, scenario_at}
 use Rattle.scenario_rules.specs.Steps.{step, with_changes}
 use Rattle.plan_schema.specs.declared.change.Change.{Change}
 use Rattle.scenario_rules.specs.Whole.{IsWhole}
@@ -50,10 +50,11 @@ pub record IsForest (entries : List (Name × Held)) (store : CellList) : Type 0 
   pub whole : IsWhole (world_by (cell_at store) entries)
   pub held : (s : Name) (h : Held) → lookup (is_at (name_cmp s)) entries ≡ Some h → IsHeld (cell_at store) h
 
--- the world is whole, and each id means its cell
+-- the world is whole, each id means its cell, and a scenario that isn't there has no ids
 pub record IsGrown (forest : Grown) : Type 0 where
   pub whole : IsWhole forest.world
   pub meant : AreWorldMeant (cell_at forest.store) forest.world (ids_in forest)
+  pub gone : (s : Name) → scenario_at forest.world s ≡ None → ids_in forest s ≡ no_ids
 
 -- what a forest is after changes to a scenario
 pub record IsAfterChanges (point : ℕ) (s : Name) (later : OwnChanges) (old new : Grown) : Type 0 where

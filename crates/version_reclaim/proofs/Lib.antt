@@ -1,2 +1,3 @@
 pub mod SetLaws
 pub mod LiveLaws
+pub mod KeptLaws

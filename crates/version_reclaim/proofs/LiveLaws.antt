@@ -1,6 +1,6 @@
 -- Sets of ids that are collected scenario by scenario.
 use Rattle.std.proofs.Common.{◌≡◌, ℕ, zero, suc, ◌+◌, ◌<◌, ◌≤◌, List, [], ◌∷◌, length, refl, sym, ◌∙◌, ap, subst, Bool, true, false, cond, inl, inr, arith}
-use Rattle.std.specs.Prelude.{Option, Some, None, IsSome, unwrap_or}
+use Rattle.std.specs.Prelude.{Option, Some, None, IsSome, is_some, unwrap_or}
 use Rattle.std.specs.Option.{option_map}
 use Rattle.std.specs.List.{slice_get}
 use Rattle.std.specs.Ordering.{is_eq}
@@ -15,7 +15,7 @@ use Rattle.scenario_rules.proofs.Keys.{name_total, name_exact}
 use Rattle.record_versions.specs.declared.version.VersionId.{VersionId}
 use Rattle.record_versions.specs.Versions.{IdList, id_at, has_id, are_ordered_ids}
 use Rattle.record_versions.proofs.Same.{is_same}
-use Rattle.version_rules.specs.Ids.{ScenarioIds, side_ids}
+use Rattle.version_rules.specs.Ids.{ScenarioIds, side_ids, no_ids, IsLive}
 use Rattle.scenario_merge.specs.declared.forest.TreeRow.{TreeRow}
 use Rattle.scenario_merge.specs.Grown.{Grown, ids_in}
 use Rattle.scenario_merge.specs.Tree.{tree_row}
@@ -105,3 +105,18 @@ all_collected forest place set whole collected = record { all = all; alone = col
         let found = place_of forest.world live.scenario live.there in
         let within : found.0 < length forest.world = slice_get_within forest.world found.0 (live.scenario, found.1.0) found.1.1 in
         collected.all found.0 live.scenario found.1.0 (omega arith) found.1.1 id live.of_it
+
+-- where a scenario that isn't there has no ids, a live id is one of a scenario that is there
+pub live_there : (forest : Grown) → ((s : Name) → scenario_at forest.world s ≡ None → ids_in forest s ≡ no_ids) → (id : VersionId) → IsLive (ids_in forest) id → IsLiveIn forest id
+live_there forest gone id live = record { scenario = live.scenario; there = by_cases (scenario_at forest.world live.scenario) refl; of_it = record { cell = live.cell; of_base = live.of_base; has = live.has } }
+  where
+    no_side : (of_base : Bool) (cell : CellName) → side_ids of_base no_ids cell ≡ None
+    no_side true cell = refl
+    no_side false cell = refl
+
+    by_cases : (o : Option Scenario) → scenario_at forest.world live.scenario ≡ o → IsSome (scenario_at forest.world live.scenario)
+    by_cases None e =
+        let none : side_ids live.of_base (ids_in forest live.scenario) live.cell ≡ None = ap (λ (ids : ScenarioIds). side_ids live.of_base ids live.cell) (gone live.scenario e) ∙ no_side live.of_base live.cell in
+        let has = live.has in
+        absurd (let no : ⊥ = cc in no)
+    by_cases (Some x) e = ap is_some e

@@ -1,10 +1,33 @@
-//! Live ids where memory is ample.
+//! Live ids, and what is given back, where memory is ample.
 use super::*;
 use plan_schema::{CellName, Contents, Day, Key, Record};
 use record_versions::VersionId;
 use scenario_merge::Forest;
+use shared_memo::{Memo, Twin};
 use std::alloc::{AllocError, Global};
+use std::sync::Arc;
 use std::test::Fail;
+
+// A key of a memo that stands on one version.
+#[derive(PartialEq, Eq, Hash, Drop)]
+struct OnVersion {
+    id: VersionId,
+}
+
+impl Twin for OnVersion {
+    fn twin(&self, _alloc: Global) -> Result<Self, AllocError> {
+        Ok(OnVersion { id: self.id })
+    }
+}
+
+fn horizon_of(point: u64) -> OnVersion {
+    OnVersion {
+        id: VersionId {
+            point,
+            cell: CellName::Plan,
+        },
+    }
+}
 
 // The root with a horizon alone.
 fn begun(alloc: Global) -> Result<Forest, AllocError> {
@@ -19,15 +42,20 @@ fn begun(alloc: Global) -> Result<Forest, AllocError> {
 }
 
 #[test]
-fn the_horizon_is_live(rt: HostRuntime) -> Result<(), Fail> {
-    let forest = begun(rt.alloc())?;
+fn keeps_what_is_live(rt: HostRuntime) -> Result<(), Fail> {
+    let mut forest = begun(rt.alloc())?;
     let live = live(rt.alloc(), &forest)?;
-    let mut id = VersionId {
-        point: 0,
-        cell: CellName::Plan,
-    };
-    assert!(rt; live.has(&id));
-    id.point = 1;
-    assert!(rt; !live.has(&id));
+    let mut memo = Memo::new(rt.alloc(), 4)?;
+    for point in 0..3 {
+        assert_eq!(rt; live.has(&horizon_of(point).id), point == 0);
+        let value = Arc::new(rt.alloc(), point)?;
+        assert!(rt; memo.put(horizon_of(point), value).is_ok());
+    }
+    reclaim(rt.alloc(), &mut forest, &mut memo, |key, live| {
+        live.has(&key.id)
+    })?;
+    assert_eq!(rt; forest.store().len(), 1);
+    assert_eq!(rt; memo.len(), 1);
+    assert!(rt; memo.get(&horizon_of(0)).is_some());
     Ok(())
 }

@@ -34,96 +34,11 @@ use Rattle.command_words.specs.declared.command.Command.{Command}
 use Rattle.command_words.specs.declared.command.Command.TheVariants as commands
 use Rattle.command_words.proofs.Again.{is_not, words_again}
 use Rattle.command_words.proofs.Queries.{line_of, query_words, words_of_line, query_of_line}
-use Rattle.command_words.proofs.Forms.{is_seen, is_seen_word, seen_word, seen_words, name_seen, number_seen, day_seen, key_seen, one_seen, all-append}
-
--- the fields of a sound row are words -------------------------------------------------------------------------------------
-
-quantity_seen : (qty : ℕ) → is_quantity qty ≡ true → is_seen_word (decimal qty) ≡ true
-quantity_seen qty h = number_seen qty (let most : qty ≤ 1_000_000_000 = grind (arith, nat_tests) in omega (arith, most))
+use Rattle.command_words.proofs.Seen.{is_seen_word, seen_word, seen_words, name_seen, number_seen, day_seen, one_seen}
+use Rattle.command_words.proofs.ShortWords.{key_seen, row_seen}
 
 up_to_seen : (n most : ℕ) → most < 2 ^ 32 → nat_le n most ≡ true → is_seen_word (decimal n) ≡ true
 up_to_seen n most big h = number_seen n (let below : n ≤ most = grind (arith, nat_tests) in omega (arith, below))
-
-seen_behind : (front back : List ℕ) → is_seen_word front ≡ true → list_all is_seen back ≡ true → is_seen_word (front ++ back) ≡ true
-seen_behind [] back h k = cc
-seen_behind (x ∷ front) back h k =
-    let p = and_parts (nat_lt 0 (length (x ∷ front))) (list_all is_seen (x ∷ front)) h in
-    and_true (let some : nat_lt 0 (length (x ∷ (front ++ back))) ≡ true = grind (arith, nat_tests) in some) (all-append is_seen (x ∷ front) back p.1 k)
-
-bytes_seen : (word : List ℕ) → is_seen_word word ≡ true → list_all is_seen word ≡ true
-bytes_seen word h = let p = and_parts (nat_lt 0 (length word)) (list_all is_seen word) h in p.1
-
-lot_seen : (lot : Lot) → is_sound_lot lot ≡ true → is_seen_word (lot_text lot) ≡ true
-unfolding lot_text
-lot_seen Exact h = refl
-lot_seen (Fixed qty) h =
-    let p = and_parts (nat_le 1 qty) (is_quantity qty) h in
-    seen_behind (codes "FOQ:") (decimal qty) refl (bytes_seen (decimal qty) (quantity_seen qty p.1))
-lot_seen (Least least step) h =
-    let p = and_parts (is_quantity least && nat_le 1 step) (is_quantity step) h in
-    let q = and_parts (is_quantity least) (nat_le 1 step) p.0 in
-    seen_behind (codes "MM:" ++ decimal least) (58 ∷ decimal step) (seen_behind (codes "MM:") (decimal least) refl (bytes_seen (decimal least) (quantity_seen least q.0)))
-    (and_true refl (bytes_seen (decimal step) (quantity_seen step p.1)))
-lot_seen (Period days) h =
-    let p = and_parts (nat_le 1 days) (nat_le days 400) h in
-    seen_behind (codes "POQ:") (decimal days) refl (bytes_seen (decimal days) (up_to_seen days 400 (omega arith) p.1))
-lot_seen (Best setup hold) h =
-    let p = and_parts (is_quantity setup) (nat_le hold 1_000_000) h in
-    seen_behind (codes "WW:" ++ decimal setup) (58 ∷ decimal hold) (seen_behind (codes "WW:") (decimal setup) refl (bytes_seen (decimal setup) (quantity_seen setup p.0)))
-    (and_true refl (bytes_seen (decimal hold) (up_to_seen hold 1_000_000 (omega arith) p.1)))
-
-mark_seen : (works : Bool) → is_seen (mark works) ≡ true
-mark_seen true = refl
-mark_seen false = refl
-
-week_seen : (week : List Bool) → is_seen_word (week_text week) ≡ true
-unfolding week_text
-week_seen week =
-    and_true refl (and_true (mark_seen (slice_index_or week 0 false)) (and_true (mark_seen (slice_index_or week 1 false)) (and_true (mark_seen (slice_index_or week 2 false))
-    (and_true (mark_seen (slice_index_or week 3 false)) (and_true (mark_seen (slice_index_or week 4 false)) (and_true (mark_seen (slice_index_or week 5 false)) (and_true (mark_seen (slice_index_or week 6 false)) refl)))))))
-
-calendar_seen : (calendar : Option (List ℕ)) → calendar_is_name calendar ≡ true → is_seen_word (calendar_text calendar) ≡ true
-unfolding calendar_text
-calendar_seen None h = refl
-calendar_seen (Some name) h = name_seen name h
-
-span_seen : (span : Option Span) → list_all is_seen_word (span_fields span) ≡ true
-unfolding span_fields
-span_seen None = refl
-span_seen (Some span) = and_true (day_seen span.from) (one_seen (day_text span.to) (day_seen span.to))
-
-record_seen : (key : Key) (value : Record) → record_has_names value ≡ true → is_within key value ≡ true → list_all is_seen_word (record_fields value) ≡ true
-unfolding record_fields
-record_seen keys.Plan (records.Plan start days) h w =
-    let p = and_parts (nat_le 1 days && nat_le days 400) (nat_le (start + days) 36525) w in
-    let q = and_parts (nat_le 1 days) (nat_le days 400) p.0 in
-    and_true (day_seen start) (one_seen (decimal days) (up_to_seen days 400 (omega arith) q.1))
-record_seen (keys.Cal name) (records.Cal week) h w = one_seen (week_text week) (week_seen week)
-record_seen (keys.Holiday name day) records.Holiday h w = refl
-record_seen (keys.Part name) (records.Part lead lot safety calendar) h w =
-    let p = and_parts (nat_le lead 365 && is_sound_lot lot) (is_quantity safety) w in
-    let q = and_parts (nat_le lead 365) (is_sound_lot lot) p.0 in
-    and_true (up_to_seen lead 365 (omega arith) q.0) (and_true (lot_seen lot q.1) (and_true (quantity_seen safety p.1) (one_seen (calendar_text calendar) (calendar_seen calendar h))))
-record_seen (keys.Stock part) (records.Stock qty) h w = one_seen (decimal qty) (quantity_seen qty w)
-record_seen (keys.Demand part order) (records.Demand day qty) h w = and_true (day_seen day) (one_seen (decimal qty) (quantity_seen qty w))
-record_seen (keys.Receipt part order) (records.Receipt day qty) h w = and_true (day_seen day) (one_seen (decimal qty) (quantity_seen qty w))
-record_seen (keys.Bill parent component) (records.Bill per span) h w =
-    let p = and_parts (nat_le 1 per && nat_le per 1_000_000) (is_sound_span span) w in
-    let q = and_parts (nat_le 1 per) (nat_le per 1_000_000) p.0 in
-    and_true (up_to_seen per 1_000_000 (omega arith) q.1) (span_seen span)
-record_seen _ _ h w = cc
-
-all_seen : (a b : List (List ℕ)) → list_all is_seen_word a ≡ true → list_all is_seen_word b ≡ true → list_all is_seen_word (a ++ b) ≡ true
-all_seen [] b h k = k
-all_seen (w ∷ a) b h k = let p = and_parts (is_seen_word w) (list_all is_seen_word a) h in and_true p.0 (all_seen a b p.1 k)
-
-row_seen : (key : Key) (value : Record) → is_sound_row key value ≡ true → list_all is_seen_word (row_fields key value) ≡ true
-unfolding row_fields
-row_seen key value h =
-    let p = and_parts (is_sound_key key && record_has_names value) (is_within key value) h in
-    let q = and_parts (is_sound_key key) (record_has_names value) p.0 in
-    let k = and_parts (key_has_names key) (are_apart key) q.0 in
-    all_seen (key_fields key) (record_fields value) (key_seen key k.0) (record_seen key value q.1 p.1)
 
 -- commands but SELECT ---------------------------------------------------------------------------------------------------------
 

@@ -1,283 +1,299 @@
--- The first line of a reply tells its form.
-use Rattle.std.proofs.Common.{◌≡◌, ℕ, ◌+◌, ◌^◌, ◌<◌, ◌≤◌, Bool, true, not, ◌&&◌, cond, nat_eq, nat_lt, nat_le, List, [], ◌∷◌, ◌++◌, length, take, Some, suc, refl, ap, ◌∙◌, append_assoc, arith}
-use Rattle.std.specs.Prelude.{◌/◌, ◌%◌, codes, decimal, option_map}
-use Rattle.std.specs.List.{list_all, flat_map, position_or_len}
-use Rattle.std.specs.Char.{is_ascii_digit}
+-- The text of a reply is a whole reply in form.
+use Rattle.std.proofs.Common.{◌≡◌, ℕ, suc, ◌+◌, ◌*◌, ◌^◌, ◌<◌, ◌≤◌, Bool, true, false, not, ◌&&◌, cond, nat_eq, nat_lt, nat_le, List, [], ◌∷◌, ◌++◌, length, take, drop, Option, Some, None, refl, sym, ap, ◌∙◌, append_assoc, append-nil, arith, length-append}
+use Rattle.std.specs.Prelude.{codes, decimal, option_map}
+use Rattle.std.specs.List.{list_all, flat_map, position_or_len, starts_with}
 use Rattle.std.proofs.lemmas.Bool.{and_parts}
 use Rattle.std.proofs.lemmas.Bool.Decides.{nat_tests}
-use Rattle.std.proofs.lemmas.Fmt.{digits_decimal, decimal_nonempty}
+use Rattle.std.proofs.lemmas.Fmt.{length-decimal-le}
+use Rattle.std.proofs.Math.Seq.{take-append_seam, take-length}
 use Rattle.plan_schema.specs.declared.fault.Rule.{Rule}
 use Rattle.plan_schema.specs.declared.fault.Rule.TheVariants as rule
-use Rattle.plan_schema.specs.declared.key.Key.{Key}
-use Rattle.plan_schema.specs.declared.key.Key.TheVariants as keys
 use Rattle.plan_schema.specs.declared.refusal.Room.{Room}
 use Rattle.plan_schema.specs.declared.refusal.Room.TheVariants as room
 use Rattle.plan_schema.specs.declared.refusal.Refusal.{Refusal}
+use Rattle.plan_schema.specs.declared.refusal.Refusal.TheVariants as refusal
+use Rattle.plan_schema.specs.Name.{is_name}
+use Rattle.plan_schema.specs.Day.{day_text}
 use Rattle.query_language.specs.declared.fault.QueryRule.{QueryRule}
 use Rattle.query_language.specs.declared.fault.QueryRule.TheVariants as query_rule
-use Rattle.plan_schema.specs.declared.refusal.Refusal.TheVariants as refusal
-use Rattle.plan_schema.specs.Name.{is_name, is_name_byte, starts_name}
-use Rattle.plan_schema.specs.Day.{Civil, is_day, date_of, date_text, day_text}
-use Rattle.plan_schema.specs.Sound.{key_has_names}
 use Rattle.row_text.specs.Spelling.{spaced, words_text, key_fields}
-use Rattle.row_text.proofs.Fields.{and_true, own, number_again}
-use Rattle.command_words.specs.Words.{is_word_byte, is_word, words_of}
+use Rattle.row_text.proofs.Fields.{and_true, le_true, number_again}
 use Rattle.command_words.specs.Replies.{ended, room_word, refusal_words, rule_word, query_rule_word, bad_words, point_word, head_words, more_lines, reply_text}
-use Rattle.command_words.specs.Forms.{form, form_of, form_of_words, first_line, if_read, point_of, count_of, listed, most_point, most_lines, refusal_has_names, is_small, bad_is_small, is_within_limits}
-use Rattle.command_words.specs.Forms.{Done, Refused, Faulty}
+use Rattle.command_words.specs.Forms.{Form, Done, Listed, Refused, Faulty, form, lines_in, most_point, most_lines, longest_line, if_read_on, place_of, line_cut, lines_cut, if_read, point_of, count_of, listed, counted, ok_form, reasoned, no_form, bad_form, form_of_line, whole_reply, refusal_has_names, is_small, bad_is_small, is_line, is_within_limits}
 use Rattle.command_words.specs.declared.reply.Bad.{Bad}
 use Rattle.command_words.specs.declared.reply.Bad.TheVariants as bad
 use Rattle.command_words.specs.declared.reply.Reply.{Reply}
 use Rattle.command_words.specs.declared.reply.Reply.TheVariants as reply
-use Rattle.command_words.proofs.Again.{words_again}
+use Rattle.command_words.proofs.Seen.{is_seen, is_seen_word, all_more, number_seen, all-append}
+use Rattle.command_words.proofs.ShortWords.{is_short_word, AreShort, no_words, short, with_word, more_short, name_short, number_short, day_short, one_short, two_short, three_short, key_short, all_seen, text_short}
 
--- the words of replies are seen: each byte comes after the space
-abbrev pub is_seen : ℕ → Bool
-is_seen byte = nat_lt 32 byte
+-- the words of the first line -----------------------------------------------------------------------------------------------
 
-abbrev pub is_seen_word : List ℕ → Bool
-is_seen_word word = nat_lt 0 (length word) && list_all is_seen word
+room_short : (what : Room) → is_short_word (room_word what) ≡ true
+room_short room.Bytes = refl
+room_short room.Scenarios = refl
+room_short room.Parts = refl
+room_short room.Records = refl
+room_short room.Journal = refl
 
-all_more : (p q : ℕ → Bool) → ((x : ℕ) → p x ≡ true → q x ≡ true) → (xs : List ℕ) → list_all p xs ≡ true → list_all q xs ≡ true
-all_more p q more [] h = refl
-all_more p q more (x ∷ xs) h = let parts = and_parts (p x) (list_all p xs) h in and_true (more x parts.0) (all_more p q more xs parts.1)
+-- a refusal has a word for its rule, and one to three for what it is about
+about : (rule : List ℕ) (words : List (List ℕ)) (n : ℕ) → n ≤ 3 → is_short_word rule ≡ true → AreShort words n → AreShort (rule ∷ words) 4
+about rule words n le h k = more_short (rule ∷ words) (suc n) 4 (omega arith) (with_word rule words n h k)
 
-seen_is_of_word : (x : ℕ) → is_seen x ≡ true → is_word_byte x ≡ true
-seen_is_of_word x h = grind (arith, nat_tests)
+about_name : (rule name : List ℕ) → is_short_word rule ≡ true → is_name name ≡ true → AreShort (rule ∷ name ∷ []) 4
+about_name rule name h k = about rule (name ∷ []) 1 (omega arith) h (one_short name (name_short name k))
 
-name_byte_is_seen : (x : ℕ) → is_name_byte x ≡ true → is_seen x ≡ true
-name_byte_is_seen x h = grind (arith, nat_tests)
-
-digit_is_seen : (x : ℕ) → is_ascii_digit x ≡ true → is_seen x ≡ true
-digit_is_seen x h = grind (arith, nat_tests)
-
-pub seen_word : (word : List ℕ) → is_seen_word word ≡ true → is_word word ≡ true
-seen_word word h = let p = and_parts (nat_lt 0 (length word)) (list_all is_seen word) h in and_true p.0 (all_more is_seen is_word_byte seen_is_of_word word p.1)
-
-pub seen_words : (words : List (List ℕ)) → list_all is_seen_word words ≡ true → list_all is_word words ≡ true
-seen_words [] h = refl
-seen_words (word ∷ words) h = let p = and_parts (is_seen_word word) (list_all is_seen_word words) h in and_true (seen_word word p.0) (seen_words words p.1)
-
-some_name : (name : List ℕ) → starts_name name ≡ true → nat_lt 0 (length name) ≡ true
-some_name [] h = cc
-some_name (x ∷ name) h = grind (arith, nat_tests)
-
-pub name_seen : (name : List ℕ) → is_name name ≡ true → is_seen_word name ≡ true
-unfolding is_name
-name_seen name h =
-    let outer = and_parts (nat_le (length name) 32 && starts_name name) (list_all is_name_byte name) h in
-    let inner = and_parts (nat_le (length name) 32) (starts_name name) outer.0 in
-    and_true (some_name name inner.1) (all_more is_name_byte is_seen name_byte_is_seen name outer.1)
-
-pub number_seen : (n : ℕ) → n < 2 ^ 64 → is_seen_word (decimal n) ≡ true
-number_seen n big =
-    let some : 0 < length (decimal n) = decimal_nonempty n big in
-    and_true (let t : nat_lt 0 (length (decimal n)) ≡ true = grind (arith, nat_tests) in t) (all_more is_ascii_digit is_seen digit_is_seen (decimal n) (digits_decimal own n big))
-
-digit_seen : (n : ℕ) → is_seen (48 + n) ≡ true
-digit_seen n = grind (arith, nat_tests)
-
-date_seen : (date : Civil) → is_seen_word (date_text date) ≡ true
-date_seen date =
-    and_true refl (and_true (digit_seen (date.year / 1000)) (and_true (digit_seen (date.year / 100 % 10)) (and_true (digit_seen (date.year / 10 % 10)) (and_true (digit_seen (date.year % 10)) (and_true refl
-    (and_true (digit_seen (date.month / 10)) (and_true (digit_seen (date.month % 10)) (and_true refl (and_true (digit_seen (date.day / 10)) (and_true (digit_seen (date.day % 10)) refl))))))))))
-
-pub day_seen : (day : ℕ) → is_seen_word (day_text day) ≡ true
-unfolding day_text
-day_seen day = date_seen (date_of day)
-
-pub one_seen : (word : List ℕ) → is_seen_word word ≡ true → list_all is_seen_word (word ∷ []) ≡ true
-one_seen word h = and_true h refl
-
-pub key_seen : (key : Key) → key_has_names key ≡ true → list_all is_seen_word (key_fields key) ≡ true
-unfolding key_fields
-key_seen keys.Plan h = refl
-key_seen (keys.Cal name) h = one_seen name (name_seen name h)
-key_seen (keys.Holiday name day) h = let p = and_parts (is_name name) (is_day day) h in and_true (name_seen name p.0) (one_seen (day_text day) (day_seen day))
-key_seen (keys.Part name) h = one_seen name (name_seen name h)
-key_seen (keys.Stock part) h = one_seen part (name_seen part h)
-key_seen (keys.Demand part order) h = let p = and_parts (is_name part) (is_name order) h in and_true (name_seen part p.0) (one_seen order (name_seen order p.1))
-key_seen (keys.Receipt part order) h = let p = and_parts (is_name part) (is_name order) h in and_true (name_seen part p.0) (one_seen order (name_seen order p.1))
-key_seen (keys.Bill parent component) h = let p = and_parts (is_name parent) (is_name component) h in and_true (name_seen parent p.0) (one_seen component (name_seen component p.1))
-
-room_seen : (what : Room) → is_seen_word (room_word what) ≡ true
-room_seen room.Bytes = refl
-room_seen room.Scenarios = refl
-room_seen room.Parts = refl
-room_seen room.Records = refl
-room_seen room.Journal = refl
-
-refusal_seen : (why : Refusal) → refusal_has_names why ≡ true → list_all is_seen_word (refusal_words why) ≡ true
+refusal_short : (why : Refusal) → refusal_has_names why ≡ true → AreShort (refusal_words why) 4
 unfolding refusal_words
-refusal_seen (refusal.NoScenario name) h = one_seen name (name_seen name h)
-refusal_seen (refusal.Denied name) h = one_seen name (name_seen name h)
-refusal_seen (refusal.Taken name) h = one_seen name (name_seen name h)
-refusal_seen (refusal.Root name) h = one_seen name (name_seen name h)
-refusal_seen (refusal.HasChildren name) h = one_seen name (name_seen name h)
-refusal_seen (refusal.Depth name) h = one_seen name (name_seen name h)
-refusal_seen (refusal.Full what) h = one_seen (room_word what) (room_seen what)
-refusal_seen (refusal.NoRecord key) h = key_seen key h
-refusal_seen (refusal.Conflict key) h = key_seen key h
-refusal_seen (refusal.NoPart name) h = one_seen name (name_seen name h)
-refusal_seen (refusal.MissingPart name) h = one_seen name (name_seen name h)
-refusal_seen (refusal.MissingCalendar name) h = one_seen name (name_seen name h)
-refusal_seen (refusal.Cyclic name) h = one_seen name (name_seen name h)
-refusal_seen (refusal.TooLarge name) h = one_seen name (name_seen name h)
-refusal_seen (refusal.NoDay day) h = one_seen (day_text day) (day_seen day)
-refusal_seen (refusal.NoCosts name) h = one_seen name (name_seen name h)
-refusal_seen refusal.ReadOnly h = refl
+refusal_short (refusal.NoScenario name) h = about_name (codes "no-scenario") name refl h
+refusal_short (refusal.Denied name) h = about_name (codes "denied") name refl h
+refusal_short (refusal.Taken name) h = about_name (codes "taken") name refl h
+refusal_short (refusal.Root name) h = about_name (codes "root") name refl h
+refusal_short (refusal.HasChildren name) h = about_name (codes "has-children") name refl h
+refusal_short (refusal.Depth name) h = about_name (codes "depth") name refl h
+refusal_short (refusal.Full what) h = about (codes "full") (room_word what ∷ []) 1 (omega arith) refl (one_short (room_word what) (room_short what))
+refusal_short (refusal.NoRecord key) h = about (codes "no-record") (key_fields key) 3 (omega arith) refl (key_short key h)
+refusal_short (refusal.Conflict key) h = about (codes "conflict") (key_fields key) 3 (omega arith) refl (key_short key h)
+refusal_short (refusal.NoPart name) h = about_name (codes "no-part") name refl h
+refusal_short (refusal.MissingPart name) h = about_name (codes "missing-part") name refl h
+refusal_short (refusal.MissingCalendar name) h = about_name (codes "missing-calendar") name refl h
+refusal_short (refusal.Cyclic name) h = about_name (codes "cyclic") name refl h
+refusal_short (refusal.TooLarge name) h = about_name (codes "too-large") name refl h
+refusal_short (refusal.NoDay day) h = about (codes "no-day") (day_text day ∷ []) 1 (omega arith) refl (one_short (day_text day) (day_short day))
+refusal_short (refusal.NoCosts name) h = about_name (codes "no-costs") name refl h
+refusal_short refusal.ReadOnly h = about (codes "read-only") [] 0 (omega arith) refl no_words
 
-rule_seen : (broken : Rule) → is_seen_word (rule_word broken) ≡ true
-rule_seen rule.Shape = refl
-rule_seen rule.Range = refl
-rule_seen rule.Date = refl
-rule_seen rule.Own = refl
+rule_short : (broken : Rule) → is_short_word (rule_word broken) ≡ true
+rule_short rule.Shape = refl
+rule_short rule.Range = refl
+rule_short rule.Date = refl
+rule_short rule.Own = refl
 
-query_rule_seen : (broken : QueryRule) → is_seen_word (query_rule_word broken) ≡ true
-query_rule_seen query_rule.Word = refl
-query_rule_seen query_rule.End = refl
-query_rule_seen query_rule.Deep = refl
-query_rule_seen query_rule.Many = refl
+query_rule_short : (broken : QueryRule) → is_short_word (query_rule_word broken) ≡ true
+query_rule_short query_rule.Word = refl
+query_rule_short query_rule.End = refl
+query_rule_short query_rule.Deep = refl
+query_rule_short query_rule.Many = refl
 
-small : (n : ℕ) → is_small n ≡ true → n < 2 ^ 64
-small n h = let below : n < 2 ^ 32 = grind (arith, nat_tests) in omega (arith, below)
+small_short : (n : ℕ) → is_small n ≡ true → is_short_word (decimal n) ≡ true
+small_short n h = number_short n (let below : n < 2 ^ 32 = grind (arith, nat_tests) in below)
 
-bad_seen : (why : Bad) → bad_is_small why ≡ true → list_all is_seen_word (bad_words why) ≡ true
+bad_short : (why : Bad) → bad_is_small why ≡ true → AreShort (bad_words why) 4
 unfolding bad_words
-bad_seen bad.Long h = refl
-bad_seen bad.Word h = refl
-bad_seen (bad.Field fault) h = and_true (number_seen fault.field (small fault.field h)) (one_seen (rule_word fault.rule) (rule_seen fault.rule))
-bad_seen (bad.Query fault) h = and_true (number_seen fault.place (small fault.place h)) (one_seen (query_rule_word fault.rule) (query_rule_seen fault.rule))
-bad_seen (bad.Row row fault) h =
+bad_short bad.Long h = about (codes "long") [] 0 (omega arith) refl no_words
+bad_short bad.Word h = about (codes "word") [] 0 (omega arith) refl no_words
+bad_short (bad.Field fault) h = about (codes "field") (decimal fault.field ∷ rule_word fault.rule ∷ []) 2 (omega arith) refl (two_short (decimal fault.field) (rule_word fault.rule) (small_short fault.field h) (rule_short fault.rule))
+bad_short (bad.Query fault) h = about (codes "query") (decimal fault.place ∷ query_rule_word fault.rule ∷ []) 2 (omega arith) refl (two_short (decimal fault.place) (query_rule_word fault.rule) (small_short fault.place h) (query_rule_short fault.rule))
+bad_short (bad.Row row fault) h =
     let p = and_parts (is_small row) (is_small fault.field) h in
-    and_true (number_seen row (small row p.0)) (and_true (number_seen fault.field (small fault.field p.1)) (one_seen (rule_word fault.rule) (rule_seen fault.rule)))
-bad_seen (bad.RowLong row) h = and_true (number_seen row (small row h)) refl
-bad_seen bad.Short h = refl
+    about (codes "row") (decimal row ∷ decimal fault.field ∷ rule_word fault.rule ∷ []) 3 (omega arith) refl
+    (three_short (decimal row) (decimal fault.field) (rule_word fault.rule) (small_short row p.0) (small_short fault.field p.1) (rule_short fault.rule))
+bad_short (bad.RowLong row) h = about (codes "row") (decimal row ∷ codes "long" ∷ []) 2 (omega arith) refl (two_short (decimal row) (codes "long") (small_short row h) refl)
+bad_short bad.Short h = about (codes "short") [] 0 (omega arith) refl no_words
 
-point_small : (point : ℕ) → nat_le point most_point ≡ true → point < 2 ^ 64
-point_small point h = let most : point ≤ most_point = grind (arith, nat_tests) in omega (arith, most)
+most_is : (n most : ℕ) → nat_le n most ≡ true → n ≤ most
+most_is n most h = grind (arith, nat_tests)
 
-point_seen : (point : ℕ) → nat_le point most_point ≡ true → is_seen_word (point_word point) ≡ true
-point_seen point h = let p = and_parts (nat_lt 0 (length (decimal point))) (list_all is_seen (decimal point)) (number_seen point (point_small point h)) in and_true (let t : nat_lt 0 (length (point_word point)) ≡ true = grind (arith, nat_tests) in t) p.1
+point_short : (point : ℕ) → nat_le point most_point ≡ true → is_short_word (point_word point) ≡ true
+point_short point h =
+    let most = most_is point most_point h in
+    let few : length (decimal point) ≤ 20 = length-decimal-le 20 point (omega arith) (omega arith) (omega arith) in
+    let p = and_parts (nat_lt 0 (length (decimal point))) (list_all is_seen (decimal point)) (number_seen point (omega arith)) in
+    short (point_word point) (omega arith) (and_true (let t : nat_lt 0 (length (point_word point)) ≡ true = grind (arith, nat_tests) in t) p.1)
 
-count_small : (count : ℕ) → nat_le count most_lines ≡ true → count < 2 ^ 64
-count_small count h = let most : count ≤ most_lines = grind (arith, nat_tests) in omega (arith, most)
-
-head_seen : (answer : Reply) → is_within_limits answer ≡ true → list_all is_seen_word (head_words answer) ≡ true
+head_short : (answer : Reply) → is_within_limits answer ≡ true → AreShort (head_words answer) 6
 unfolding head_words
-head_seen (reply.Ok point) h = one_seen (point_word point) (point_seen point h)
-head_seen (reply.Rows point lines) h =
-    let p = and_parts (nat_le point most_point) (nat_le (length lines) most_lines) h in
-    and_true (point_seen point p.0) (one_seen (decimal (length lines)) (number_seen (length lines) (count_small (length lines) p.1)))
-head_seen (reply.No point why) h =
+head_short (reply.Ok point) h = more_short (codes "OK" ∷ point_word point ∷ []) 2 6 (omega arith) (two_short (codes "OK") (point_word point) refl (point_short point h))
+head_short (reply.Rows point lines) h =
+    let q = and_parts (nat_le point most_point && nat_le (length lines) most_lines) (list_all is_line lines) h in
+    let p = and_parts (nat_le point most_point) (nat_le (length lines) most_lines) q.0 in
+    let few = most_is (length lines) most_lines p.1 in
+    more_short (codes "OK" ∷ point_word point ∷ decimal (length lines) ∷ []) 3 6 (omega arith)
+    (three_short (codes "OK") (point_word point) (decimal (length lines)) refl (point_short point p.0) (number_short (length lines) (omega arith)))
+head_short (reply.No point why) h =
     let p = and_parts (nat_le point most_point) (refusal_has_names why) h in
-    and_true (point_seen point p.0) (refusal_seen why p.1)
-head_seen (reply.Bad why) h = bad_seen why h
-head_seen reply.Mem h = refl
+    with_word (codes "NO") (point_word point ∷ refusal_words why) 5 refl (with_word (point_word point) (refusal_words why) 4 (point_short point p.0) (refusal_short why p.1))
+head_short (reply.Bad why) h = more_short (codes "BAD" ∷ bad_words why) 5 6 (omega arith) (with_word (codes "BAD") (bad_words why) 4 refl (bad_short why h))
+head_short reply.Mem h = more_short (codes "MEM" ∷ []) 1 6 (omega arith) (one_short (codes "MEM") refl)
 
--- the first line ------------------------------------------------------------------------------------------------------------
+-- where a byte stands first ---------------------------------------------------------------------------------------------------
 
-abbrev is_feed : ℕ → Bool
-is_feed byte = nat_eq byte 10
+abbrev is_other : ℕ → ℕ → Bool
+is_other byte x = not (nat_eq x byte)
 
-abbrev is_of_line : ℕ → Bool
-is_of_line byte = nat_le 32 byte
+placed : (byte : ℕ) (text rest : List ℕ) → list_all (is_other byte) text ≡ true → place_of byte (text ++ byte ∷ rest) ≡ length text
+placed byte [] rest h =
+    let here : not (nat_eq byte byte) ≡ false = grind (arith, nat_tests) in
+    ap (λ t. cond t (1 + place_of byte rest) 0) here
+placed byte (x ∷ text) rest h =
+    let p = and_parts (is_other byte x) (list_all (is_other byte) text) h in
+    let later = placed byte text rest p.1 in
+    ap (λ t. cond t (1 + place_of byte (text ++ byte ∷ rest)) 0) p.0 ∙ omega arith
 
-line_first : (line behind : List ℕ) → list_all is_of_line line ≡ true → first_line (line ++ 10 ∷ behind) ≡ line
-line_first [] behind h = refl
-line_first (x ∷ line) behind h =
-    let p = and_parts (is_of_line x) (list_all is_of_line line) h in
-    let on : not (is_feed x) ≡ true = grind (arith, nat_tests) in
-    let one : 1 + position_or_len is_feed (line ++ 10 ∷ behind) ≡ suc (position_or_len is_feed (line ++ 10 ∷ behind)) = omega arith in
-    ap (λ t. take (cond t (1 + position_or_len is_feed (line ++ 10 ∷ behind)) 0) (x ∷ (line ++ 10 ∷ behind))) on
-    ∙ ap (λ n. take n (x ∷ (line ++ 10 ∷ behind))) one ∙ ap (λ t. x ∷ t) (line_first line behind p.1)
+nowhere : (byte : ℕ) (text : List ℕ) → list_all (is_other byte) text ≡ true → place_of byte text ≡ length text
+nowhere byte [] h = refl
+nowhere byte (x ∷ text) h =
+    let p = and_parts (is_other byte x) (list_all (is_other byte) text) h in
+    let later = nowhere byte text p.1 in
+    ap (λ t. cond t (1 + place_of byte text) 0) p.0 ∙ omega arith
 
-pub all-append : (p : ℕ → Bool) (xs ys : List ℕ) → list_all p xs ≡ true → list_all p ys ≡ true → list_all p (xs ++ ys) ≡ true
-all-append p [] ys h k = k
-all-append p (x ∷ xs) ys h k = let parts = and_parts (p x) (list_all p xs) h in and_true parts.0 (all-append p xs ys parts.1 k)
+-- what stands behind the byte
+behind_byte : (byte : ℕ) (text rest : List ℕ) → drop (length text + 1) (text ++ byte ∷ rest) ≡ rest
+behind_byte byte text rest = ap (λ n. drop n (text ++ byte ∷ rest)) (let n : length text + 1 ≡ suc (length text) = omega arith in n) ∙ past text
+  where
+    past : (text : List ℕ) → drop (suc (length text)) (text ++ byte ∷ rest) ≡ rest
+    past [] = refl
+    past (x ∷ text) = past text
 
-seen_is_of_line : (x : ℕ) → is_seen x ≡ true → is_of_line x ≡ true
-seen_is_of_line x h = grind (arith, nat_tests)
+from_byte : (byte : ℕ) (text rest : List ℕ) → drop (length text) (text ++ byte ∷ rest) ≡ byte ∷ rest
+from_byte byte [] rest = refl
+from_byte byte (x ∷ text) rest = from_byte byte text rest
 
-word_on_line : (word : List ℕ) → is_seen_word word ≡ true → list_all is_of_line word ≡ true
-word_on_line word h = let p = and_parts (nat_lt 0 (length word)) (list_all is_seen word) h in all_more is_seen is_of_line seen_is_of_line word p.1
+whole_text : (text : List ℕ) → drop (length text) text ≡ []
+whole_text [] = refl
+whole_text (x ∷ text) = whole_text text
 
-spaced_on_line : (words : List (List ℕ)) → list_all is_seen_word words ≡ true → list_all is_of_line (spaced words) ≡ true
-spaced_on_line [] h = refl
-spaced_on_line (word ∷ words) h =
+seen_is_other : (x : ℕ) → is_seen x ≡ true → is_other 32 x ≡ true
+seen_is_other x h = grind (arith, nat_tests)
+
+seen_is_no_feed : (x : ℕ) → is_seen x ≡ true → is_other 10 x ≡ true
+seen_is_no_feed x h = grind (arith, nat_tests)
+
+-- lines -------------------------------------------------------------------------------------------------------------------------
+
+-- a line without a line feed, and not too long, is cut off
+line_told : (line rest : List ℕ) → list_all (is_other 10) line ≡ true → length line ≤ longest_line → line_cut (line ++ 10 ∷ rest) ≡ Some (line, rest)
+line_told line rest h few =
+    let at = placed 10 line rest h in
+    let long : length (line ++ 10 ∷ rest) ≡ length line + suc (length rest) = length-append line (10 ∷ rest) in
+    let ended_there : nat_lt (length line) (length (line ++ 10 ∷ rest)) ≡ true = grind (arith, nat_tests) in
+    let fits : nat_le (length line) longest_line ≡ true = le_true (length line) longest_line few in
+    ap (λ k. cond (nat_lt k (length (line ++ 10 ∷ rest)) && nat_le k longest_line) (Some (take k (line ++ 10 ∷ rest), drop (k + 1) (line ++ 10 ∷ rest))) None) at
+    ∙ ap (λ t. cond t (Some (take (length line) (line ++ 10 ∷ rest), drop (length line + 1) (line ++ 10 ∷ rest))) None) (and_true ended_there fits)
+    ∙ (λ i. Some (take-append_seam line (10 ∷ rest) i, behind_byte 10 line rest i))
+
+lines_told : (lines : List (List ℕ)) (behind : List ℕ) → list_all is_line lines ≡ true → lines_cut (length lines) (flat_map ended lines ++ behind) ≡ Some behind
+lines_told [] behind h = refl
+lines_told (line ∷ lines) behind h =
+    let p = and_parts (is_line line) (list_all is_line lines) h in
+    let q = and_parts (nat_le (length line) longest_line) (list_all (λ byte. not (nat_eq byte 10)) line) p.0 in
+    let shape : flat_map ended (line ∷ lines) ++ behind ≡ line ++ 10 ∷ (flat_map ended lines ++ behind) =
+    append_assoc (ended line) (flat_map ended lines) behind ∙ append_assoc line (10 ∷ []) (flat_map ended lines ++ behind) in
+    ap (λ text. if_read_on (line_cut text) (λ cut. lines_cut (length lines) cut.1)) shape
+    ∙ ap (λ o. if_read_on o (λ cut. lines_cut (length lines) cut.1)) (line_told line (flat_map ended lines ++ behind) q.1 (most_is (length line) longest_line q.0))
+    ∙ lines_told lines behind p.1
+
+no_feed : (words : List (List ℕ)) → list_all is_seen_word words ≡ true → list_all (is_other 10) (words_text words) ≡ true
+no_feed [] h = refl
+no_feed (word ∷ words) h =
     let p = and_parts (is_seen_word word) (list_all is_seen_word words) h in
-    all-append is_of_line (32 ∷ word) (spaced words) (and_true refl (word_on_line word p.0)) (spaced_on_line words p.1)
+    all-append (is_other 10) word (spaced words) (bytes word p.0) (more words p.1)
+  where
+    bytes : (word : List ℕ) → is_seen_word word ≡ true → list_all (is_other 10) word ≡ true
+    bytes word e = all_more is_seen (is_other 10) seen_is_no_feed word (and_parts (nat_lt 0 (length word)) (list_all is_seen word) e).1
 
-words_on_line : (words : List (List ℕ)) → list_all is_seen_word words ≡ true → list_all is_of_line (words_text words) ≡ true
-words_on_line [] h = refl
-words_on_line (word ∷ words) h =
-    let p = and_parts (is_seen_word word) (list_all is_seen_word words) h in
-    all-append is_of_line word (spaced words) (word_on_line word p.0) (spaced_on_line words p.1)
+    more : (words : List (List ℕ)) → list_all is_seen_word words ≡ true → list_all (is_other 10) (spaced words) ≡ true
+    more [] e = refl
+    more (word ∷ words) e =
+        let p = and_parts (is_seen_word word) (list_all is_seen_word words) e in
+        all-append (is_other 10) (32 ∷ word) (spaced words) (and_true refl (bytes word p.0)) (more words p.1)
 
--- a reply's first line ends where its words do
-reply_first : (answer : Reply) (behind : List ℕ) → is_within_limits answer ≡ true → first_line (reply_text answer ++ behind) ≡ words_text (head_words answer)
-unfolding reply_text
-reply_first answer behind h =
-    let line = words_text (head_words answer) in
-    let parts : (ended line ++ flat_map ended (more_lines answer)) ++ behind ≡ line ++ 10 ∷ (flat_map ended (more_lines answer) ++ behind) =
-    append_assoc (ended line) (flat_map ended (more_lines answer)) behind ∙ append_assoc line (10 ∷ []) (flat_map ended (more_lines answer) ++ behind) in
-    ap first_line parts ∙ line_first line (flat_map ended (more_lines answer) ++ behind) (words_on_line (head_words answer) (head_seen answer h))
+-- the form ----------------------------------------------------------------------------------------------------------------------
 
--- its form --------------------------------------------------------------------------------------------------------------------
-
-point_again : (point : ℕ) → nat_le point most_point ≡ true → point_of (point_word point) ≡ Some point
-point_again point h =
-    let most : point ≤ most_point = grind (arith, nat_tests) in
-    ap if_read (number_again 0 most_point point (omega arith) (omega arith) most)
+point_again : (point : ℕ) → nat_le point most_point ≡ true → point_of (decimal point) ≡ Some point
+point_again point h = ap if_read (number_again 0 most_point point (omega arith) (omega arith) (most_is point most_point h))
 
 count_again : (count : ℕ) → nat_le count most_lines ≡ true → count_of (decimal count) ≡ Some count
-count_again count h =
-    let most : count ≤ most_lines = grind (arith, nat_tests) in
-    ap if_read (number_again 0 most_lines count (omega arith) (omega arith) most)
+count_again count h = ap if_read (number_again 0 most_lines count (omega arith) (omega arith) (most_is count most_lines h))
 
-refused_again : (point : ℕ) (why : Refusal) → nat_le point most_point ≡ true → form_of_words (codes "NO" ∷ point_word point ∷ refusal_words why) ≡ Some (Refused point)
+digits_other : (point : ℕ) → nat_le point most_point ≡ true → list_all (is_other 32) (decimal point) ≡ true
+digits_other point h =
+    let most = most_is point most_point h in
+    all_more is_seen (is_other 32) seen_is_other (decimal point) (and_parts (nat_lt 0 (length (decimal point))) (list_all is_seen (decimal point)) (number_seen point (omega arith))).1
+
+done_told : (point : ℕ) → nat_le point most_point ≡ true → ok_form (decimal point) ≡ Some (Done point)
+done_told point h =
+    let digits = decimal point in
+    ap (λ k. counted (take k digits) (drop k digits)) (nowhere 32 digits (digits_other point h))
+    ∙ (λ i. counted (take-length digits i) (whole_text digits i))
+    ∙ ap (option_map Done) (point_again point h)
+
+listed_told : (point count : ℕ) → nat_le point most_point ≡ true → nat_le count most_lines ≡ true → ok_form (decimal point ++ 32 ∷ decimal count) ≡ Some (Listed point count)
+listed_told point count h k =
+    let digits = decimal point in
+    let text = digits ++ 32 ∷ decimal count in
+    ap (λ n. counted (take n text) (drop n text)) (placed 32 digits (decimal count) (digits_other point h))
+    ∙ (λ i. counted (take-append_seam digits (32 ∷ decimal count) i) (from_byte 32 digits (decimal count) i))
+    ∙ (λ i. listed (point_again point h i) (count_again count k i))
+
+refused_told : (point byte : ℕ) (why : List ℕ) → nat_le point most_point ≡ true → no_form (decimal point ++ 32 ∷ byte ∷ why) ≡ Some (Refused point)
+refused_told point byte why h =
+    let digits = decimal point in
+    let text = digits ++ 32 ∷ byte ∷ why in
+    ap (λ n. reasoned (take n text) (drop (n + 1) text)) (placed 32 digits (byte ∷ why) (digits_other point h))
+    ∙ (λ i. reasoned (take-append_seam digits (32 ∷ byte ∷ why) i) (behind_byte 32 digits (byte ∷ why) i))
+    ∙ ap (option_map Refused) (point_again point h)
+
+no_told : (point : ℕ) (why : Refusal) → nat_le point most_point ≡ true → no_form (decimal point ++ spaced (refusal_words why)) ≡ Some (Refused point)
 unfolding refusal_words
-refused_again point (refusal.NoScenario name) h = ap (option_map Refused) (point_again point h)
-refused_again point (refusal.Denied name) h = ap (option_map Refused) (point_again point h)
-refused_again point (refusal.Taken name) h = ap (option_map Refused) (point_again point h)
-refused_again point (refusal.Root name) h = ap (option_map Refused) (point_again point h)
-refused_again point (refusal.HasChildren name) h = ap (option_map Refused) (point_again point h)
-refused_again point (refusal.Depth name) h = ap (option_map Refused) (point_again point h)
-refused_again point (refusal.Full what) h = ap (option_map Refused) (point_again point h)
-refused_again point (refusal.NoRecord key) h = ap (option_map Refused) (point_again point h)
-refused_again point (refusal.Conflict key) h = ap (option_map Refused) (point_again point h)
-refused_again point (refusal.NoPart name) h = ap (option_map Refused) (point_again point h)
-refused_again point (refusal.MissingPart name) h = ap (option_map Refused) (point_again point h)
-refused_again point (refusal.MissingCalendar name) h = ap (option_map Refused) (point_again point h)
-refused_again point (refusal.Cyclic name) h = ap (option_map Refused) (point_again point h)
-refused_again point (refusal.TooLarge name) h = ap (option_map Refused) (point_again point h)
-refused_again point (refusal.NoDay day) h = ap (option_map Refused) (point_again point h)
-refused_again point (refusal.NoCosts name) h = ap (option_map Refused) (point_again point h)
-refused_again point refusal.ReadOnly h = ap (option_map Refused) (point_again point h)
+no_told point (refusal.NoScenario name) h = refused_told point _ _ h
+no_told point (refusal.Denied name) h = refused_told point _ _ h
+no_told point (refusal.Taken name) h = refused_told point _ _ h
+no_told point (refusal.Root name) h = refused_told point _ _ h
+no_told point (refusal.HasChildren name) h = refused_told point _ _ h
+no_told point (refusal.Depth name) h = refused_told point _ _ h
+no_told point (refusal.Full what) h = refused_told point _ _ h
+no_told point (refusal.NoRecord key) h = refused_told point _ _ h
+no_told point (refusal.Conflict key) h = refused_told point _ _ h
+no_told point (refusal.NoPart name) h = refused_told point _ _ h
+no_told point (refusal.MissingPart name) h = refused_told point _ _ h
+no_told point (refusal.MissingCalendar name) h = refused_told point _ _ h
+no_told point (refusal.Cyclic name) h = refused_told point _ _ h
+no_told point (refusal.TooLarge name) h = refused_told point _ _ h
+no_told point (refusal.NoDay day) h = refused_told point _ _ h
+no_told point (refusal.NoCosts name) h = refused_told point _ _ h
+no_told point refusal.ReadOnly h = refused_told point _ _ h
 
-faulty_again : (why : Bad) → form_of_words (codes "BAD" ∷ bad_words why) ≡ Some Faulty
+bad_told : (why : Bad) → form_of_line (words_text (codes "BAD" ∷ bad_words why)) ≡ Some Faulty
 unfolding bad_words
-faulty_again bad.Long = refl
-faulty_again bad.Word = refl
-faulty_again (bad.Field fault) = refl
-faulty_again (bad.Query fault) = refl
-faulty_again (bad.Row row fault) = refl
-faulty_again (bad.RowLong row) = refl
-faulty_again bad.Short = refl
+bad_told bad.Long = refl
+bad_told bad.Word = refl
+bad_told (bad.Field fault) = refl
+bad_told (bad.Query fault) = refl
+bad_told (bad.Row row fault) = refl
+bad_told (bad.RowLong row) = refl
+bad_told bad.Short = refl
 
-head_again : (answer : Reply) → is_within_limits answer ≡ true → form_of_words (head_words answer) ≡ Some (form answer)
+head_told : (answer : Reply) → is_within_limits answer ≡ true → form_of_line (words_text (head_words answer)) ≡ Some (form answer)
 unfolding head_words
-head_again (reply.Ok point) h = ap (option_map Done) (point_again point h)
-head_again (reply.Rows point lines) h =
-    let p = and_parts (nat_le point most_point) (nat_le (length lines) most_lines) h in
-    λ i. listed (point_again point p.0 i) (count_again (length lines) p.1 i)
-head_again (reply.No point why) h = let p = and_parts (nat_le point most_point) (refusal_has_names why) h in refused_again point why p.0
-head_again (reply.Bad why) h = faulty_again why
-head_again reply.Mem h = refl
+head_told (reply.Ok point) h = ap ok_form (append-nil (decimal point)) ∙ done_told point h
+head_told (reply.Rows point lines) h =
+    let q = and_parts (nat_le point most_point && nat_le (length lines) most_lines) (list_all is_line lines) h in
+    let p = and_parts (nat_le point most_point) (nat_le (length lines) most_lines) q.0 in
+    ap (λ t. ok_form (decimal point ++ 32 ∷ t)) (append-nil (decimal (length lines))) ∙ listed_told point (length lines) p.0 p.1
+head_told (reply.No point why) h = no_told point why (and_parts (nat_le point most_point) (refusal_has_names why) h).0
+head_told (reply.Bad why) h = bad_told why
+head_told reply.Mem h = refl
 
-pub form_told : (answer : Reply) (behind : List ℕ) → is_within_limits answer ≡ true → form_of (reply_text answer ++ behind) ≡ Some (form answer)
-unfolding form_of
+-- the lines behind the first are as many as the form tells
+more_told : (answer : Reply) (behind : List ℕ) → is_within_limits answer ≡ true → lines_cut (lines_in (form answer)) (flat_map ended (more_lines answer) ++ behind) ≡ Some behind
+more_told (reply.Ok point) behind h = refl
+more_told (reply.Rows point lines) behind h = lines_told lines behind (and_parts (nat_le point most_point && nat_le (length lines) most_lines) (list_all is_line lines) h).1
+more_told (reply.No point why) behind h = refl
+more_told (reply.Bad why) behind h = refl
+more_told reply.Mem behind h = refl
+
+pub form_told : (answer : Reply) (behind : List ℕ) → is_within_limits answer ≡ true → whole_reply (reply_text answer ++ behind) ≡ Some (form answer, behind)
+unfolding whole_reply reply_text
 form_told answer behind h =
-    ap (λ line. form_of_words (words_of line)) (reply_first answer behind h)
-    ∙ ap form_of_words (words_again (head_words answer) (seen_words (head_words answer) (head_seen answer h)))
-    ∙ head_again answer h
+    let line = words_text (head_words answer) in
+    let more = flat_map ended (more_lines answer) ++ behind in
+    let words = head_short answer h in
+    let few = text_short (head_words answer) 6 words in
+    let parts : (ended line ++ flat_map ended (more_lines answer)) ++ behind ≡ line ++ 10 ∷ more =
+    append_assoc (ended line) (flat_map ended (more_lines answer)) behind ∙ append_assoc line (10 ∷ []) more in
+    let first : line_cut ((ended line ++ flat_map ended (more_lines answer)) ++ behind) ≡ Some (line, more) =
+    ap line_cut parts ∙ line_told line more (no_feed (head_words answer) (all_seen (head_words answer) words.short)) (omega arith) in
+    ap (λ o. if_read_on o (λ first. if_read_on (form_of_line first.0) (λ told. option_map (λ rest. (told, rest)) (lines_cut (lines_in told) first.1)))) first
+    ∙ ap (λ o. if_read_on o (λ told. option_map (λ rest. (told, rest)) (lines_cut (lines_in told) more))) (head_told answer h)
+    ∙ ap (option_map (λ rest. (form answer, rest))) (more_told answer behind h)

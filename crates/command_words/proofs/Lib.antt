@@ -1,8 +1,11 @@
-pub mod Split
+pub mod Fewer
+pub mod FirstWords
 pub mod Texts
 pub mod Places
 pub mod Pages
 pub mod Again
+pub mod Seen
+pub mod ShortWords
 pub mod Forms
 pub mod Refusals
 pub mod Queries

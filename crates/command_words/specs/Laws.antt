@@ -7,7 +7,7 @@ use Rattle.plan_schema.specs.Sound.{key_has_names}
 use Rattle.row_text.specs.Spelling.{words_text, key_fields}
 use Rattle.command_words.specs.Words.{words_of, is_word}
 use Rattle.command_words.specs.Replies.{refusal_words, reply_text}
-use Rattle.command_words.specs.Forms.{form, form_of, refusal_has_names, is_within_limits}
+use Rattle.command_words.specs.Forms.{form, whole_reply, refusal_has_names, is_within_limits}
 use Rattle.command_words.specs.Commands.{command_of}
 use Rattle.command_words.specs.Spelling.{words_of_command, command_text, is_sound_command}
 use Rattle.command_words.specs.declared.command.Command.{Command}
@@ -17,9 +17,11 @@ use Rattle.command_words.specs.declared.reply.Reply.{Reply}
 abbrev pub WordsAreReadAgain : Type 0
 WordsAreReadAgain = (words : List (List ℕ)) → list_all is_word words ≡ true → words_of (words_text words) ≡ words
 
--- what a reply's text begins with tells the reply's kind, its point and how many lines follow, whatever is written behind it
-abbrev pub ReplyTellsItsForm : Type 0
-ReplyTellsItsForm = (answer : Reply) (behind : List ℕ) → is_within_limits answer ≡ true → form_of (reply_text answer ++ behind) ≡ Some (form answer)
+-- the text of a reply is a whole reply in form, whatever is written behind it: it tells the reply's kind, its point, how many lines
+-- follow the first, and where the last of them ends
+abbrev pub ReplyIsInForm : Type 0
+ReplyIsInForm = (answer : Reply) (behind : List ℕ) → is_within_limits answer ≡ true
+    → whole_reply (reply_text answer ++ behind) ≡ Some (form answer, behind)
 
 -- two refusals with the same words are the same
 abbrev pub RefusalsDiffer : Type 0

@@ -7,3 +7,4 @@ pub mod Forms
 pub mod Spelling
 pub mod Laws
 pub use Rattle.plan_schema.specs.Outside
+pub mod Changes

@@ -1,6 +1,11 @@
 //! Commands.
+ghost use Rattle.std.specs.Prelude.{◌≡◌, true, IfSome};
+ghost use Rattle.plan_schema.specs.Sound.{is_sound_change};
+ghost use Rattle.command_words.specs.Changes.{change_of};
+ghost use Rattle.command_words.specs.Spelling.{is_sound_command};
+
 use crate::query::QueryText;
-use plan_schema::{CellName, Day, Key, Name, Record};
+use plan_schema::{CellName, Change, Day, Key, Name, Record};
 
 /// What a session asks for, read from a line that lives for `'a`.
 #[derive(Drop)]
@@ -80,4 +85,45 @@ pub enum Command<'a> {
     Reclaim,
     /// Ends the session.
     Quit,
+}
+
+impl Command<'_> {
+    /// The change that the command makes by itself. A LOAD makes none: its rows stand in the lines behind it.
+    pub fn change(&self) -> Option<Change>
+        ensures value { result ≡ change_of self.now }
+        ensures sound { is_sound_command self.now ≡ true → IfSome result (λ change. is_sound_change change ≡ true) }
+    {
+        match self {
+            Command::Put {
+                scenario,
+                key,
+                value,
+            } => Some(Change::Put {
+                scenario: *scenario,
+                key: *key,
+                value: *value,
+            }),
+            Command::Del { scenario, key } => Some(Change::Del {
+                scenario: *scenario,
+                key: *key,
+            }),
+            Command::Branch { parent, child } => Some(Change::Branch {
+                parent: *parent,
+                child: *child,
+            }),
+            Command::Share(scenario) => Some(Change::Share {
+                scenario: *scenario,
+            }),
+            Command::Update(scenario) => Some(Change::Update {
+                scenario: *scenario,
+            }),
+            Command::Commit(scenario) => Some(Change::Commit {
+                scenario: *scenario,
+            }),
+            Command::Drop(scenario) => Some(Change::Drop {
+                scenario: *scenario,
+            }),
+            _ => None,
+        }
+    }
 }

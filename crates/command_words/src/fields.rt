@@ -35,10 +35,7 @@ fn in_line(fault: FieldFault) -> FieldFault
     requires { fault.field ≤ 6 }
     ensures { result ≡ record { field = fault.field + 2; rule = fault.rule } }
 {
-    FieldFault {
-        field: fault.field + 2,
-        rule: fault.rule,
-    }
+    FieldFault::at(fault.field + 2, fault.rule)
 }
 
 /// The row behind the scenario.
@@ -176,10 +173,7 @@ fn cell(word: &[u8], words: &[&[u8]]) -> Result<CellName, FieldFault>
     if is_word(word, b"PART") {
         return part_cell(words);
     }
-    Err(FieldFault {
-        field: 2,
-        rule: Rule::Shape,
-    })
+    Err(FieldFault::at(2, Rule::Shape))
 }
 
 #[tactic(auto, unfolding(crate::specs::Commands::plan_cell_of))]

@@ -1,5 +1,5 @@
 //! What can be told from words: lines from their words, and replies, refusals and keys from their texts.
-ghost use Rattle.command_words.specs.Laws.{WordsAreReadAgain, CommandIsReadAlone, CommandIsReadAgain, ReplyTellsItsForm, RefusalsDiffer, KeysDiffer};
+ghost use Rattle.command_words.specs.Laws.{WordsAreReadAgain, CommandIsReadAlone, CommandIsReadAgain, ReplyIsInForm, RefusalsDiffer, KeysDiffer};
 
 /// The words that a line was made of are its words.
 pub fn words_are_read_again()
@@ -12,9 +12,9 @@ pub fn commands_have_one_spelling()
     ensures alone { CommandIsReadAlone }
 {}
 
-/// The first line of a reply tells the reply's kind, its point and how many lines follow.
-pub fn replies_tell_their_form()
-    ensures { ReplyTellsItsForm }
+/// The text of a reply tells, byte for byte, its kind, its point and where it ends.
+pub fn replies_are_in_form()
+    ensures { ReplyIsInForm }
 {}
 
 /// Refusals with the same words are the same, and so are keys with the same key form.

@@ -15,7 +15,7 @@ mod write;
 
 pub use command::Command;
 pub use laws::{
-    commands_have_one_spelling, refusals_have_one_spelling, replies_tell_their_form,
+    commands_have_one_spelling, refusals_have_one_spelling, replies_are_in_form,
     words_are_read_again,
 };
 pub use line::is_blank;
@@ -23,6 +23,6 @@ pub use lines::Lines;
 pub use page::{Page, flush, put_line};
 pub use plan_schema::CellName;
 pub use query::QueryText;
-pub use read::{Words, read_line, read_row, words_in};
+pub use read::{Words, read_line, read_row, read_words, words_in};
 pub use reply::{Bad, Reply};
 pub use write::{put_reply, room_bytes, rule_bytes, write_reply};

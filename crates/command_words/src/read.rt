@@ -6,7 +6,7 @@ ghost use Rattle.row_text.specs.Texts.{texts};
 ghost use Rattle.command_words.specs.Commands as spec;
 ghost use Rattle.command_words.specs.Spelling.{is_sound_command};
 ghost use Rattle.command_words.specs.Verbs.{verb_of};
-ghost use Rattle.command_words.specs.Words.{words_of};
+ghost use Rattle.command_words.specs.Words.{first_words};
 ghost use Rattle.arrayvec.specs.ArrayVec.{array_vec_len};
 
 use crate::command::Command;
@@ -18,8 +18,11 @@ use plan_schema::{FieldFault, Key, Record};
 use query_language::check_query;
 use row_text::{read_record, text_at};
 
-/// The words of a line: one of at most 1,024 bytes has at most 512.
-pub type Words<'a> = ArrayVec<&'a [u8], 512>;
+/// How many words of a line are looked at.
+const MOST_WORDS: usize = 16;
+
+/// The first words of a line.
+pub type Words<'a> = ArrayVec<&'a [u8], MOST_WORDS>;
 
 /// The command that a line is, or the first fault of it. Takes no memory.
 pub fn read_line<'a>(line: &'a [u8]) -> Result<Command<'a>, Bad>
@@ -27,11 +30,21 @@ pub fn read_line<'a>(line: &'a [u8]) -> Result<Command<'a>, Bad>
     ensures value { result ≡ spec.command_of line.now }
     ensures sound { IfOk result (λ command. is_sound_command command ≡ true) }
 {
-    command_in(line)
+    let words = words_in(line);
+    read_words(line, words.as_slice())
+}
+
+/// The command that a line is, or the first fault of it, by its first words. Takes no memory.
+pub fn read_words<'a>(line: &'a [u8], words: &[&'a [u8]]) -> Result<Command<'a>, Bad>
+    requires short { length line.now ≤ 1024 }
+    requires words { texts words.now ≡ first_words line.now }
+    ensures value { result ≡ spec.command_of line.now }
+    ensures sound { IfOk result (λ command. is_sound_command command ≡ true) }
+{
+    command_of_words(line, words)
 }
 
 /// The row that a line inside a LOAD is, or its first faulty field, where field 0 is the table word. Takes no memory.
-#[tactic(auto, unfolding(crate::specs::Commands::row_of))]
 pub fn read_row(line: &[u8]) -> Result<(Key, Record), FieldFault>
     requires { length line.now ≤ 1024 }
     ensures value { result ≡ spec.row_of line.now }
@@ -41,27 +54,20 @@ pub fn read_row(line: &[u8]) -> Result<(Key, Record), FieldFault>
     read_record(words.as_slice())
 }
 
-/// The words of a line, in order. Takes no memory.
+/// The first words of a line, in order. Takes no memory.
 pub fn words_in(line: &[u8]) -> Words<'_>
-    requires { length line.now ≤ 1024 }
-    ensures { texts result.items ≡ words_of line.now }
+    ensures { texts result.items ≡ first_words line.now }
 {
     let mut words = Words::new();
     for word in line.split(|byte| *byte == b' ' || *byte == b'\t') {
-        if !word.is_empty() {
-            let _ = words.try_push(word);
+        if word.is_empty() {
+            continue;
+        }
+        if words.try_push(word).is_err() {
+            break;
         }
     }
     words
-}
-
-#[tactic(auto, unfolding(crate::specs::Commands::command_of))]
-fn command_in<'a>(line: &'a [u8]) -> Result<Command<'a>, Bad>
-    requires { length line.now ≤ 1024 }
-    ensures { result ≡ spec.command_of line.now }
-{
-    let words = words_in(line);
-    command_of_words(line, words.as_slice())
 }
 
 fn command_of_words<'a>(line: &'a [u8], words: &[&'a [u8]]) -> Result<Command<'a>, Bad>

@@ -14,11 +14,10 @@ use Rattle.plan_schema.specs.Base.{is_base, is_part_key, part_count, has_horizon
 use Rattle.plan_schema.specs.declared.limits.TheConstants.{PART_LIMIT, RECORD_LIMIT}
 use Rattle.plan_schema.specs.Contents.{Contents, record_at, with_record, without_key, is_ordered}
 use Rattle.plan_schema.specs.Sound.{are_sound_rows}
-use Rattle.scenario_rules.specs.Refused.{is_part_row}
 use Rattle.scenario_rules.specs.Whole.{AreWholeContents, AreWithinLimits}
 use Rattle.scenario_rules.proofs.Maps.{length_insert, length_remove}
 use Rattle.scenario_rules.proofs.Keys.{key_total, key_exact}
-use Rattle.scenario_rules.proofs.Counts.{part_rows, passing_put, passing_taken}
+use Rattle.scenario_rules.proofs.Counts.{passing_put, passing_taken}
 
 -- what a base is, part by part
 pub record IsBase (c : Contents) : Type 0 where
@@ -39,17 +38,13 @@ base_parts c h =
     at_most : (n most : ℕ) → nat_le n most ≡ true → n ≤ most
     at_most n most h = grind (arith, nat_tests)
 
--- a part is counted where its row is
-pub part_counts : (c : Contents) → count_by is_part_row c ≡ part_count c
-part_counts c = ap (λ test. count_by test c) part_rows
-
 -- contents that are whole and within the limits are a base
 pub whole_is_base : (c : Contents) → AreWholeContents c → AreWithinLimits c → is_base c ≡ true
 whole_is_base c whole limits =
     and_from (is_ordered c && are_sound_rows c && has_horizon c && nat_le (part_count c) PART_LIMIT) (nat_le (length c) RECORD_LIMIT)
     (and_from (is_ordered c && are_sound_rows c && has_horizon c) (nat_le (part_count c) PART_LIMIT)
     (and_from (is_ordered c && are_sound_rows c) (has_horizon c) (and_from (is_ordered c) (are_sound_rows c) whole.ordered whole.sound) whole.horizon)
-    (passes (part_count c) PART_LIMIT (let few = limits.parts in let same = part_counts c in omega arith)))
+    (passes (part_count c) PART_LIMIT limits.parts))
     (passes (length c) RECORD_LIMIT limits.records)
   where
     passes : (n most : ℕ) → n ≤ most → nat_le n most ≡ true
@@ -59,7 +54,7 @@ pub base_is_whole : (c : Contents) → is_base c ≡ true → AreWholeContents c
 base_is_whole c h = let p = base_parts c h in record { ordered = p.ordered; sound = p.sound; horizon = p.horizon }
 
 pub base_is_within : (c : Contents) → is_base c ≡ true → AreWithinLimits c
-base_is_within c h = let p = base_parts c h in record { parts = (let few = p.parts in let same = part_counts c in omega arith); records = p.records }
+base_is_within c h = let p = base_parts c h in record { parts = p.parts; records = p.records }
 
 -- a record is put
 pub parts_put : (c : Contents) (key : Key) (value : Record) → is_base c ≡ true

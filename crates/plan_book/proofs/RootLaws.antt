@@ -19,7 +19,7 @@ use Rattle.plan_schema.specs.Sound.{is_sound_entry}
 use Rattle.plan_schema.specs.Refusals.{first_of, where_so}
 use Rattle.scenario_rules.specs.World.{root, is_root, root_with, begin_with}
 use Rattle.scenario_rules.specs.Steps.{step, world_after}
-use Rattle.scenario_rules.specs.Refused.{named, no_scenario, is_part_row, scenario_refusal, record_count, record_counts, full_journal, refused}
+use Rattle.scenario_rules.specs.Refused.{named, no_scenario, scenario_refusal, record_count, record_counts, full_journal, refused}
 use Rattle.scenario_rules.specs.Journal.{IsLegal}
 use Rattle.scenario_rules.specs.Whole.{IsWhole}
 use Rattle.scenario_rules.proofs.Wholeness.{one_name}
@@ -52,13 +52,13 @@ skip (Some r) os = refl
 
 -- what a PUT to the root, and a DEL, are refused for
 root_put : (c : Contents) (user : Name) (key : Key) (value : Record) → scenario_refusal (begin_with c) user (changes.Put root key value)
-    ≡ first_of (where_so (nat_lt PART_LIMIT (count_by is_part_row (with_record c key value))) (refusals.Full rooms.Parts)
+    ≡ first_of (where_so (nat_lt PART_LIMIT (part_count (with_record c key value))) (refusals.Full rooms.Parts)
     ∷ where_so (nat_lt RECORD_LIMIT (length (with_record c key value))) (refusals.Full rooms.Records) ∷ [])
 root_put c user key value = refl
 
 root_del : (c : Contents) (user : Name) (key : Key) → scenario_refusal (begin_with c) user (changes.Del root key)
     ≡ first_of (where_so (is_none (record_at c key)) (refusals.NoRecord key)
-    ∷ where_so (nat_lt PART_LIMIT (count_by is_part_row (without_key c key))) (refusals.Full rooms.Parts)
+    ∷ where_so (nat_lt PART_LIMIT (part_count (without_key c key))) (refusals.Full rooms.Parts)
     ∷ where_so (nat_lt RECORD_LIMIT (length (without_key c key))) (refusals.Full rooms.Records) ∷ [])
 root_del c user key = skip (where_so (is_none (record_at c key)) (refusals.NoRecord key)) _
 

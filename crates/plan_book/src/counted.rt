@@ -35,7 +35,7 @@ impl Counted {
     {
         Ok(Counted {
             records: records.copy()?,
-            parts: count_parts(records),
+            parts: records.parts(),
         })
     }
 
@@ -51,7 +51,7 @@ impl Counted {
         requires { is_base self.now ≡ true }
         ensures { (value : Record) → result ≡ part_count (with_record self.now key.now value) }
     {
-        if is_part(key) && self.records.get(key).is_none() {
+        if key.is_part() && self.records.get(key).is_none() {
             self.parts + 1
         } else {
             self.parts
@@ -87,27 +87,8 @@ impl Counted {
         ensures { self.new ≡ without_key self.old key.now }
     {
         let taken = self.records.remove(key).is_some();
-        if taken && is_part(key) {
+        if taken && key.is_part() {
             self.parts -= 1;
         }
     }
-}
-
-/// How many parts there are.
-fn count_parts(records: &Contents) -> usize
-    ensures { result ≡ part_count records.now }
-{
-    let mut count = 0;
-    for (key, _) in records.iter() {
-        if is_part(key) {
-            count += 1;
-        }
-    }
-    count
-}
-
-fn is_part(key: &Key) -> bool
-    ensures { result ≡ is_part_key key.now }
-{
-    matches!(key, Key::Part(_))
 }

@@ -152,7 +152,7 @@ fn check_limits(contents: Contents) -> Result<Contents, ImportFault>
     ensures value { result ≡ within_limits contents }
     ensures base { IfOk result (λ checked. is_base checked ≡ true) }
 {
-    if count_parts(&contents) > PART_LIMIT {
+    if contents.parts() > PART_LIMIT {
         return Err(ImportFault::Full(Room::Parts));
     }
     if contents.len() > RECORD_LIMIT {
@@ -162,17 +162,4 @@ fn check_limits(contents: Contents) -> Result<Contents, ImportFault>
         return Err(ImportFault::NoPlan);
     }
     Ok(contents)
-}
-
-/// How many parts there are.
-fn count_parts(contents: &Contents) -> usize
-    ensures { result ≡ part_count contents.now }
-{
-    let mut count = 0;
-    for (key, _) in contents.iter() {
-        if matches!(key, Key::Part(_)) {
-            count += 1;
-        }
-    }
-    count
 }

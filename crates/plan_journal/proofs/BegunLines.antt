@@ -20,15 +20,15 @@ use Rattle.command_words.specs.Spelling.{words_of_command}
 use Rattle.command_words.specs.declared.command.Command.{Command}
 use Rattle.command_words.specs.declared.command.Command.TheVariants as commands
 use Rattle.command_words.proofs.CommandsAgain.{command_again}
-use Rattle.command_words.proofs.Forms.{is_seen, is_seen_word, name_seen, number_seen}
+use Rattle.command_words.proofs.Seen.{is_seen, is_seen_word, name_seen, number_seen}
 use Rattle.plan_journal.specs.Entries.{command_for, change_words, entry_line}
 use Rattle.plan_journal.specs.Cuts.{onto_first, cut_at}
 use Rattle.plan_journal.specs.Versions.{line_is_of, change_is_of}
-use Rattle.plan_journal.specs.Begun.{◌>>=◌, if_read, where_so, may_be_spelled, change_of, change_in, behind_number, number_before, begun_of}
+use Rattle.plan_journal.specs.Begun.{◌>>=◌, if_read, where_so, may_be_spelled, asked_of, change_in, behind_number, number_before, begun_of}
 use Rattle.plan_journal.specs.declared.begun.Begun.{Begun}
 use Rattle.plan_journal.specs.declared.frame.Version.{Version}
 use Rattle.plan_journal.proofs.Pieces.{cut_is}
-use Rattle.plan_journal.proofs.ShortWords.{AreShort, name_short, number_short, row_short, key_short, two_short, three_short, more_short, both_short}
+use Rattle.command_words.proofs.ShortWords.{AreShort, name_short, number_short, row_short, key_short, two_short, three_short, more_short, both_short}
 use Rattle.plan_journal.proofs.EntryLines.{bind_some, so_some, read_some, same_some, short_may, command_with, change_holds, change_takes}
 
 -- what is read ----------------------------------------------------------------------------------------------------------------
@@ -167,11 +167,11 @@ own_number_read number rest big =
     ap (λ o. o >>= (λ parts. where_so (pointwise nat_eq parts.0 (decimal number)) parts.1)) (cut_word (decimal number) rest (number_seen number big))
     ∙ ap (λ b. where_so b rest) ((bytes_decides (decimal number) (decimal number)).1 refl)
 
-change_by : (version : Version) (text : List ℕ) (command : Command) (change : Change) (left : ℕ) → may_be_spelled text ≡ true → command_of text ≡ Ok command → change_of command ≡ Some (change, left) → line_is_of version change ≡ true → change_in version text ≡ Some (change, left)
+change_by : (version : Version) (text : List ℕ) (command : Command) (change : Change) (left : ℕ) → may_be_spelled text ≡ true → command_of text ≡ Ok command → asked_of command ≡ Some (change, left) → line_is_of version change ≡ true → change_in version text ≡ Some (change, left)
 unfolding change_in
 change_by version text command change left may read asked own =
-    ap (λ b. where_so b text >>= (λ t. if_read (command_of t) >>= (λ c. change_of c >>= (λ a. where_so (line_is_of version a.0) a)))) may
-    ∙ ap (λ r. if_read r >>= (λ c. change_of c >>= (λ a. where_so (line_is_of version a.0) a))) read
+    ap (λ b. where_so b text >>= (λ t. if_read (command_of t) >>= (λ c. asked_of c >>= (λ a. where_so (line_is_of version a.0) a)))) may
+    ∙ ap (λ r. if_read r >>= (λ c. asked_of c >>= (λ a. where_so (line_is_of version a.0) a))) read
     ∙ ap (λ o. o >>= (λ a. where_so (line_is_of version a.0) a)) asked ∙ ap (λ b. where_so b (change, left)) own
 
 pub change_short : (change : Change) → is_sound_change change ≡ true → AreShort (words_of_command (command_for change)) 20

@@ -21,13 +21,13 @@ use Rattle.command_words.specs.declared.command.Command.{Command}
 use Rattle.command_words.specs.declared.command.Command.TheVariants as commands
 use Rattle.command_words.proofs.Again.{words_again}
 use Rattle.command_words.proofs.Commands.{command_alone}
-use Rattle.command_words.proofs.Forms.{is_seen_word, seen_words}
+use Rattle.command_words.proofs.Seen.{is_seen_word, seen_words}
 use Rattle.plan_journal.specs.Entries.{command_for}
 use Rattle.plan_journal.specs.Cuts.{parts_singly}
 use Rattle.plan_journal.specs.Versions.{row_is_of, line_is_of, change_is_of}
-use Rattle.plan_journal.specs.Begun.{◌>>=◌, if_read, where_so, may_be_spelled, spelled, row_in, change_of, change_in}
+use Rattle.plan_journal.specs.Begun.{◌>>=◌, if_read, where_so, may_be_spelled, spelled, row_in, asked_of, change_in}
 use Rattle.plan_journal.specs.declared.frame.Version.{Version}
-use Rattle.plan_journal.proofs.ShortWords.{AreShort, is_short_word, row_short, more_short}
+use Rattle.command_words.proofs.ShortWords.{AreShort, is_short_word, row_short, more_short}
 use Rattle.plan_journal.proofs.Singly.{singly_spelled, words_singly}
 
 -- steps that may say nothing -------------------------------------------------------------------------------------------------
@@ -140,7 +140,7 @@ IsAskedBy version command asked = (command ≡ command_with asked.1 asked.0) × 
 asked_by : (version : Version) (command : Command) (change : Change) (left : ℕ) (asked : Change × ℕ) → Some (change, left) ≡ Some asked → IsAskedBy version command (change, left) → IsAskedBy version command asked
 asked_by version command change left asked is h = subst (IsAskedBy version command) (same_some (change, left) asked is) h
 
-pub change_asked : (version : Version) (command : Command) (asked : Change × ℕ) → change_of command ≡ Some asked → is_sound_command command ≡ true → line_is_of version asked.0 ≡ true → IsAskedBy version command asked
+pub change_asked : (version : Version) (command : Command) (asked : Change × ℕ) → asked_of command ≡ Some asked → is_sound_command command ≡ true → line_is_of version asked.0 ≡ true → IsAskedBy version command asked
 change_asked version (commands.Put scenario key value) asked is h own =
     let same = same_some (changes.Put scenario key value, 0) asked is in
     let allowed : row_is_of version value ≡ true = ap (λ (a : Change × ℕ). line_is_of version a.0) same ∙ own in
@@ -163,7 +163,7 @@ unfolding change_in
 change_takes version line asked h =
     let a = bind_some (spelled line) _ asked h in
     let b = bind_some (if_read (command_of a.0)) _ asked a.2 in
-    let c = bind_some (change_of b.0) _ asked b.2 in
+    let c = bind_some (asked_of b.0) _ asked b.2 in
     let may = so_some (may_be_spelled line) line a.0 a.1 in
     let own = so_some (line_is_of version c.0.0) c.0 asked c.2 in
     let single = and_parts (nat_le (length line) 1_024) (parts_singly false line) may.0 in

@@ -5,7 +5,6 @@ pub mod Pieces
 pub mod Steps
 pub mod JournalTold
 pub mod Singly
-pub mod ShortWords
 pub mod EntryLines
 pub mod BegunLines
 pub mod PlaceTexts

@@ -23,7 +23,7 @@ use Rattle.command_words.specs.declared.command.Command.TheVariants as commands
 use Rattle.scenario_rules.specs.Refused.{record_count, record_counts}
 use Rattle.plan_journal.specs.Entries.{command_for, change_words, entry_line, rows_text, rows_behind, entry_text, entries_text}
 use Rattle.plan_journal.specs.Versions.{row_is_of, change_is_of, are_of}
-use Rattle.plan_journal.specs.Begun.{if_read, spelled, row_in, change_with_row, records_of, change_of, change_in, number_before, behind_number, begun_of}
+use Rattle.plan_journal.specs.Begun.{if_read, spelled, row_in, change_with_row, records_of, asked_of, change_in, number_before, behind_number, begun_of}
 use Rattle.plan_journal.specs.Places.{Place, nothing, kept, has_room, behind_entry_line, behind_row, behind_line, continued}
 use Rattle.plan_journal.specs.Reading.{told, place_behind, finished, entries_from}
 use Rattle.plan_journal.specs.declared.begun.Begun.{Begun}
@@ -104,7 +104,7 @@ row_holds version change left row h sound own =
     absurd (not_zero left q.0)
 
 -- a line gives no rows
-asked_rows : (command : Command) (asked : Change × ℕ) → change_of command ≡ Some asked → rows_behind asked.0 ≡ []
+asked_rows : (command : Command) (asked : Change × ℕ) → asked_of command ≡ Some asked → rows_behind asked.0 ≡ []
 asked_rows (commands.Put scenario key value) asked h = ap (λ (a : Change × ℕ). rows_behind a.0) (sym (same_some (changes.Put scenario key value, 0) asked h))
 asked_rows (commands.Del scenario key) asked h = ap (λ (a : Change × ℕ). rows_behind a.0) (sym (same_some (changes.Del scenario key, 0) asked h))
 asked_rows (commands.Load scenario count) asked h = ap (λ (a : Change × ℕ). rows_behind a.0) (sym (same_some (changes.Load scenario [], count) asked h))
@@ -126,7 +126,7 @@ begun_rows version number line begun h =
     let f = bind_some (change_in version d.0.1) _ begun e.2 in
     let s = bind_some (spelled d.0.1) _ f.0 f.1 in
     let r = bind_some (if_read (Rattle.command_words.specs.Commands.command_of s.0)) _ f.0 s.2 in
-    let o = bind_some (change_of r.0) _ f.0 r.2 in
+    let o = bind_some (asked_of r.0) _ f.0 r.2 in
     let own = so_some (Rattle.plan_journal.specs.Versions.line_is_of version o.0.0) o.0 f.0 o.2 in
     let entry : Entry = record { session = b.0.0; line = c.0.0; user = e.0; change = f.0.0 } in
     let made : Begun = record { entry = entry; left = f.0.1 } in

@@ -6,7 +6,7 @@ use Rattle.std.proofs.lemmas.Bool.{and_parts, eqb-true}
 use Rattle.std.proofs.lemmas.Bool.Decides.{nat_tests}
 use Rattle.row_text.specs.Spelling.{spaced, words_text}
 use Rattle.command_words.specs.Words.{is_space, words_of}
-use Rattle.command_words.proofs.Forms.{is_seen, is_seen_word}
+use Rattle.command_words.proofs.Seen.{is_seen, is_seen_word}
 use Rattle.plan_journal.specs.Cuts.{parts_singly}
 
 abbrev some : List ℕ → Bool

@@ -18,7 +18,7 @@ use Rattle.row_text.specs.Spelling.{spaced, words_text, row_fields, row_text}
 use Rattle.row_text.proofs.Fields.{and_true, le_true}
 use Rattle.command_words.specs.Replies.{ended}
 use Rattle.command_words.specs.Spelling.{words_of_command}
-use Rattle.command_words.proofs.Forms.{is_seen, is_seen_word, name_seen, number_seen, all-append}
+use Rattle.command_words.proofs.Seen.{is_seen, is_seen_word, name_seen, number_seen, all-append}
 use Rattle.scenario_rules.specs.Refused.{record_count, record_counts}
 use Rattle.plan_journal.specs.Entries.{command_for, change_words, entry_line, rows_behind, entry_text, entries_text}
 use Rattle.plan_journal.specs.Cuts.{onto_line, parts_of}
@@ -30,7 +30,7 @@ use Rattle.plan_journal.specs.Reading.{told, place_behind, finished, entries_fro
 use Rattle.plan_journal.specs.declared.begun.Begun.{Begun}
 use Rattle.plan_journal.specs.declared.frame.Frame.{Frame}
 use Rattle.plan_journal.proofs.Pieces.{line_before}
-use Rattle.plan_journal.proofs.ShortWords.{row_short}
+use Rattle.command_words.proofs.ShortWords.{row_short}
 use Rattle.plan_journal.proofs.EntryLines.{seen_of_short, row_read}
 use Rattle.plan_journal.proofs.BegunLines.{head_holds, change_short, without_rows, row_count, begun_with, begun_read}
 use Rattle.plan_journal.proofs.PlaceTexts.{kept_waits, AreRead}

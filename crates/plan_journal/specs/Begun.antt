@@ -1,5 +1,5 @@
 -- What single lines of a journal say.
-use Rattle.std.specs.Prelude.{ℕ, ◌+◌, ◌-◌, Bool, false, ◌&&◌, nat_eq, nat_le, List, [], ◌∷◌, ◌++◌, length, Option, Some, None, Result, Ok, Err, if◌then◌else◌, decimal}
+use Rattle.std.specs.Prelude.{ℕ, ◌+◌, ◌-◌, Bool, false, ◌&&◌, nat_eq, nat_le, List, [], ◌∷◌, ◌++◌, length, Option, Some, None, option_map, Result, Ok, Err, if◌then◌else◌, decimal}
 use Rattle.std.specs.Cmp.Lexicographic.{pointwise}
 use Rattle.plan_schema.specs.Name.{name_of}
 use Rattle.plan_schema.specs.declared.key.Key.{Key}
@@ -8,6 +8,7 @@ use Rattle.plan_schema.specs.declared.change.Change.{Change}
 use Rattle.plan_schema.specs.declared.change.Change.TheVariants as changes
 use Rattle.plan_schema.specs.declared.limits.TheConstants.{LINE_LIMIT}
 use Rattle.row_text.specs.Number.{number_of}
+use Rattle.command_words.specs.Changes.{change_of}
 use Rattle.command_words.specs.Commands.{command_of, row_of}
 use Rattle.command_words.specs.declared.command.Command.{Command}
 use Rattle.command_words.specs.declared.command.Command.TheVariants as commands
@@ -65,23 +66,16 @@ records_of begun = record_count begun.entry.change + begun.left
 -- the line of an entry ------------------------------------------------------------------------------------------------------
 
 -- the change that a command asks for, of a LOAD without its rows, and how many rows are to come; nothing where it asks for none
-abbrev pub change_of : Command → Option (Change × ℕ)
-change_of (commands.Put scenario key value) = Some (changes.Put scenario key value, 0)
-change_of (commands.Del scenario key) = Some (changes.Del scenario key, 0)
-change_of (commands.Load scenario count) = Some (changes.Load scenario [], count)
-change_of (commands.Branch parent child) = Some (changes.Branch parent child, 0)
-change_of (commands.Share scenario) = Some (changes.Share scenario, 0)
-change_of (commands.Update scenario) = Some (changes.Update scenario, 0)
-change_of (commands.Commit scenario) = Some (changes.Commit scenario, 0)
-change_of (commands.Drop scenario) = Some (changes.Drop scenario, 0)
-change_of _ = None
+abbrev pub asked_of : Command → Option (Change × ℕ)
+asked_of (commands.Load scenario count) = Some (changes.Load scenario [], count)
+asked_of command = option_map (λ change. (change, 0)) (change_of command)
 
 -- the change that a text says
 unfoldable pub change_in : Version → List ℕ → Option (Change × ℕ)
 change_in version line = do
   text ← spelled line
   command ← if_read (command_of text)
-  asked ← change_of command
+  asked ← asked_of command
   where_so (line_is_of version asked.0) asked
 
 -- what stands behind an entry's number

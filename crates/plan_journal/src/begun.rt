@@ -138,7 +138,7 @@ fn change_in(alloc: Global, version: Version, text: &[u8]) -> Option<(Change, u3
         return None;
     }
     let command = read_line(text).ok()?;
-    let (change, left) = change_of(alloc, &command)?;
+    let (change, left) = asked_of(alloc, &command)?;
     if version.has_change(&change) {
         Some((change, left))
     } else {
@@ -147,46 +147,15 @@ fn change_in(alloc: Global, version: Version, text: &[u8]) -> Option<(Change, u3
 }
 
 /// The change that a command asks for, of a LOAD without its rows, and how many rows are to come.
-fn change_of(alloc: Global, command: &Command) -> Option<(Change, u32)>
-    ensures value { result ≡ spec.change_of command.now }
+fn asked_of(alloc: Global, command: &Command) -> Option<(Change, u32)>
+    ensures value { result ≡ spec.asked_of command.now }
     ensures few { IfSome result (λ asked. record_count asked.0 ≤ 1) }
 {
-    let change = match command {
-        Command::Put {
-            scenario,
-            key,
-            value,
-        } => Change::Put {
-            scenario: *scenario,
-            key: *key,
-            value: *value,
-        },
-        Command::Del { scenario, key } => Change::Del {
-            scenario: *scenario,
-            key: *key,
-        },
-        Command::Load { scenario, count } => {
-            let rows = Rows::new(alloc);
-            let scenario = *scenario;
-            return Some((Change::Load { scenario, rows }, *count));
-        }
-        Command::Branch { parent, child } => Change::Branch {
-            parent: *parent,
-            child: *child,
-        },
-        Command::Share(scenario) => Change::Share {
-            scenario: *scenario,
-        },
-        Command::Update(scenario) => Change::Update {
-            scenario: *scenario,
-        },
-        Command::Commit(scenario) => Change::Commit {
-            scenario: *scenario,
-        },
-        Command::Drop(scenario) => Change::Drop {
-            scenario: *scenario,
-        },
-        _ => return None,
-    };
+    if let Command::Load { scenario, count } = command {
+        let rows = Rows::new(alloc);
+        let scenario = *scenario;
+        return Some((Change::Load { scenario, rows }, *count));
+    }
+    let change = command.change()?;
     Some((change, 0))
 }

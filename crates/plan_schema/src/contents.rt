@@ -4,6 +4,7 @@ ghost use Rattle.std.specs.Option.{option_copied, option_map};
 ghost use Rattle.std.specs.List.{slice_get};
 ghost use Rattle.std.specs.Map.Iter.{deref_pair};
 ghost use Rattle.std.specs.BTreeMap.{insert_entry};
+ghost use Rattle.plan_schema.specs.Base.{part_count};
 ghost use Rattle.plan_schema.specs.Contents.{is_ordered, record_at, with_record, without_key};
 
 use crate::key::{Key, Record};
@@ -67,6 +68,19 @@ impl Contents {
         ensures ordered { is_ordered self.now ≡ true }
     {
         self.records.len()
+    }
+
+    /// How many parts there are. Goes over all records.
+    pub fn parts(&self) -> usize
+        ensures { result ≡ part_count self.now }
+    {
+        let mut parts = 0;
+        for (key, _) in self.records.iter() {
+            if key.is_part() {
+                parts += 1;
+            }
+        }
+        parts
     }
 
     /// Whether there are no records.

@@ -1,4 +1,5 @@
 //! What is wrong with a field of a row.
+ghost use Rattle.std.specs.Prelude.{◌≡◌};
 
 /// The rule that a field breaks.
 #[derive(Clone, Copy, Debug)]
@@ -18,4 +19,13 @@ pub enum Rule {
 pub struct FieldFault {
     pub field: u32,
     pub rule: Rule,
+}
+
+impl FieldFault {
+    /// That the field with this number breaks the rule.
+    pub fn at(field: u32, rule: Rule) -> FieldFault
+        ensures { result ≡ record { field = field; rule = rule } }
+    {
+        FieldFault { field, rule }
+    }
 }

@@ -1,5 +1,6 @@
 //! Keys and records.
 ghost use Rattle.std.specs.Prelude.{◌≡◌, true};
+ghost use Rattle.plan_schema.specs.Base.{is_part_key};
 ghost use Rattle.plan_schema.specs.Key.{key_cmp};
 ghost use Rattle.plan_schema.specs.Sound.{key_has_names, record_has_names};
 
@@ -97,6 +98,13 @@ impl Key {
         ensures { result ≡ key_cmp self.now other.now }
     {
         self.cmp(other)
+    }
+
+    /// Whether it is a part's own record.
+    pub fn is_part(&self) -> bool
+        ensures { result ≡ is_part_key self.now }
+    {
+        matches!(self, Key::Part(_))
     }
 
     /// Tells a caller that the names in the key are names, and its days days.

@@ -13,7 +13,7 @@ ghost use Rattle.request_loop.specs.Heard.{IsTaken, IsHeard};
 
 use crate::answers::{Answers, Why};
 use crate::gathering::{Gathered, Gathering};
-use crate::request::{change_of, read_request};
+use crate::request::read_request;
 use byte_lines::{Sink, SinkFault};
 use command_words::{Bad, Command, Page, Reply, flush, is_blank};
 use plan_schema::{Change, Name};
@@ -292,7 +292,7 @@ fn handed_on<A: Answers, K: Sink>(
         (record { line = line; wish = requests.wish_of command.now })
         page.old.items page.new.items sink.old sink.new result }
 {
-    match change_of(command) {
+    match command.change() {
         Some(change) => change_handed_on(answers, state, line, user, change, page, sink),
         None => match answers.ask(state, line, user, command) {
             Ok(reply) => Ok(reply),

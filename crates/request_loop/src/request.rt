@@ -6,8 +6,8 @@ ghost use Rattle.command_words.specs.Words.{words_of};
 ghost use Rattle.session_rules.specs.Requests as requests;
 ghost use Rattle.plan_schema.specs.Sound.{is_sound_change};
 
-use command_words::{Bad, Command, read_line, words_in};
-use plan_schema::{Change, FieldFault, Rule};
+use command_words::{Bad, Command, read_words, words_in};
+use plan_schema::{FieldFault, Rule};
 use row_text::is_word;
 
 /// The command words that are served.
@@ -21,11 +21,12 @@ pub(crate) fn read_request<'a>(line: &'a [u8]) -> Result<Command<'a>, Bad>
     ensures sound { IfOk result (λ command. is_sound_command command ≡ true) }
 {
     let words = words_in(line);
-    if !is_served(words.as_slice()) {
+    let words = words.as_slice();
+    if !is_served(words) {
         return Err(Bad::Word);
     }
-    let read = read_line(line);
-    if is_closed(words.as_slice()) {
+    let read = read_words(line, words);
+    if is_closed(words) {
         return Err(Bad::Field(closed_fault(&read)));
     }
     read
@@ -69,50 +70,6 @@ fn closed_fault(read: &Result<Command<'_>, Bad>) -> FieldFault
 {
     match read {
         Err(Bad::Field(fault)) if fault.field < 2 => *fault,
-        _ => FieldFault {
-            field: 2,
-            rule: Rule::Shape,
-        },
-    }
-}
-
-/// The change that a command makes, unless it makes none, or is a LOAD, whose rows follow it.
-pub(crate) fn change_of(command: &Command<'_>) -> Option<Change>
-    requires { is_sound_command command.now ≡ true }
-    ensures some { IfSome result (λ change. requests.wish_of command.now ≡ requests.Makes change) }
-    ensures sound { IfSome result (λ change. is_sound_change change ≡ true) }
-    ensures none { result ≡ None → requests.wish_of command.now ≡ requests.Asks command.now }
-{
-    match command {
-        Command::Put {
-            scenario,
-            key,
-            value,
-        } => Some(Change::Put {
-            scenario: *scenario,
-            key: *key,
-            value: *value,
-        }),
-        Command::Del { scenario, key } => Some(Change::Del {
-            scenario: *scenario,
-            key: *key,
-        }),
-        Command::Branch { parent, child } => Some(Change::Branch {
-            parent: *parent,
-            child: *child,
-        }),
-        Command::Share(scenario) => Some(Change::Share {
-            scenario: *scenario,
-        }),
-        Command::Update(scenario) => Some(Change::Update {
-            scenario: *scenario,
-        }),
-        Command::Commit(scenario) => Some(Change::Commit {
-            scenario: *scenario,
-        }),
-        Command::Drop(scenario) => Some(Change::Drop {
-            scenario: *scenario,
-        }),
-        _ => None,
+        _ => FieldFault::at(2, Rule::Shape),
     }
 }

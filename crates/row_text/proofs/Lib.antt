@@ -4,4 +4,5 @@ pub mod Fields
 pub mod Lots
 pub mod Rows
 pub mod KeyForms
+pub mod Fewer
 pub mod Worked

@@ -1,5 +1,5 @@
 -- What holds between reading and writing.
-use Rattle.std.specs.Prelude.{◌≡◌, ◌<◌, ◌≤◌, ◌^◌, ℕ, List, true, false, Ok, decimal}
+use Rattle.std.specs.Prelude.{◌≡◌, ◌<◌, ◌≤◌, ◌^◌, ℕ, List, take, true, false, Ok, decimal}
 use Rattle.plan_schema.specs.declared.key.Key.{Key}
 use Rattle.plan_schema.specs.declared.key.Key.TheVariants as keys
 use Rattle.plan_schema.specs.declared.key.Lot.{Lot}
@@ -37,3 +37,7 @@ NumberIsReadAgain = (low high n : ℕ) → high < 2 ^ 64 → low ≤ n → n ≤
 
 abbrev pub NumberIsReadAlone : Type 0
 NumberIsReadAlone = (low high : ℕ) (text : List ℕ) (n : ℕ) → high < 2 ^ 64 → number_of low high text ≡ Ok n → (text ≡ decimal n) × (low ≤ n) × (n ≤ high)
+
+-- what stands behind the first eight fields is not looked at: a row has seven at most, and the first one too many is the fault
+abbrev pub FewFieldsTell : Type 0
+FewFieldsTell = (m : ℕ) (fields : List (List ℕ)) → 8 ≤ m → (row_of (take m fields) ≡ row_of fields) × (key_of (take m fields) ≡ key_of fields)

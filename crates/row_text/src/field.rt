@@ -21,10 +21,7 @@ pub fn text_at<'a>(fields: &[&'a [u8]], field: u32) -> Result<&'a [u8], FieldFau
 {
     match fields.get(field as usize) {
         Some(text) => Ok(*text),
-        None => Err(FieldFault {
-            field,
-            rule: Rule::Shape,
-        }),
+        None => Err(FieldFault::at(field, Rule::Shape)),
     }
 }
 
@@ -34,10 +31,7 @@ pub fn end_at(fields: &[&[u8]], field: u32) -> Result<(), FieldFault>
     ensures { result ≡ spec.end_at (texts fields.now) field }
 {
     if fields.len() > field as usize {
-        return Err(FieldFault {
-            field,
-            rule: Rule::Shape,
-        });
+        return Err(FieldFault::at(field, Rule::Shape));
     }
     Ok(())
 }
@@ -50,10 +44,7 @@ pub fn name_at(fields: &[&[u8]], field: u32) -> Result<Name, FieldFault>
     let text = text_at(fields, field)?;
     match Name::read(text) {
         Some(name) => Ok(name),
-        None => Err(FieldFault {
-            field,
-            rule: Rule::Shape,
-        }),
+        None => Err(FieldFault::at(field, Rule::Shape)),
     }
 }
 
@@ -67,7 +58,7 @@ pub fn number_at(fields: &[&[u8]], field: u32, low: u64, high: u64) -> Result<u6
     let text = text_at(fields, field)?;
     match read_number(text, low, high) {
         Ok(number) => Ok(number),
-        Err(rule) => Err(FieldFault { field, rule }),
+        Err(rule) => Err(FieldFault::at(field, rule)),
     }
 }
 
@@ -79,7 +70,7 @@ pub fn day_at(fields: &[&[u8]], field: u32) -> Result<Day, FieldFault>
     let text = text_at(fields, field)?;
     match Day::read(text) {
         Ok(day) => Ok(day),
-        Err(rule) => Err(FieldFault { field, rule }),
+        Err(rule) => Err(FieldFault::at(field, rule)),
     }
 }
 
@@ -90,10 +81,7 @@ pub fn component_at(fields: &[&[u8]], field: u32, parent: &Name) -> Result<Name,
 {
     let component = name_at(fields, field)?;
     if *parent == component {
-        return Err(FieldFault {
-            field,
-            rule: Rule::Own,
-        });
+        return Err(FieldFault::at(field, Rule::Own));
     }
     Ok(component)
 }

@@ -50,10 +50,7 @@ fn key_of_table(word: &[u8], fields: &[&[u8]]) -> Result<Key, FieldFault>
     if is_word(word, b"BILL") {
         return bill(fields);
     }
-    Err(FieldFault {
-        field: 0,
-        rule: Rule::Shape,
-    })
+    Err(FieldFault::at(0, Rule::Shape))
 }
 
 #[tactic(auto, unfolding(crate::specs::Row::one_name))]

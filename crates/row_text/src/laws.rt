@@ -1,6 +1,6 @@
 //! Reading and writing undo each other: each row, key, lot and number has one spelling, which is read as it, and no other
 //! text is.
-ghost use Rattle.row_text.specs.Laws.{RowIsReadAgain, RowIsReadAlone, KeyIsReadAgain, KeyIsReadAlone, LotIsReadAgain, LotIsReadAlone, NumberIsReadAgain, NumberIsReadAlone};
+ghost use Rattle.row_text.specs.Laws.{RowIsReadAgain, RowIsReadAlone, KeyIsReadAgain, KeyIsReadAlone, LotIsReadAgain, LotIsReadAlone, NumberIsReadAgain, NumberIsReadAlone, FewFieldsTell};
 
 /// The fields of a sound row are read as that row, and no other fields are.
 pub fn rows_have_one_spelling()
@@ -24,4 +24,9 @@ pub fn lots_have_one_spelling()
 pub fn numbers_have_one_spelling()
     ensures again { NumberIsReadAgain }
     ensures alone { NumberIsReadAlone }
+{}
+
+/// What stands behind the first eight fields of a row or of a key form is not looked at.
+pub fn few_fields_tell()
+    ensures { FewFieldsTell }
 {}

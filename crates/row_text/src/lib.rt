@@ -13,7 +13,7 @@ mod write;
 pub use field::{day_at, end_at, is_word, name_at, number_at, text_at};
 pub use key_form::read_key;
 pub use laws::{
-    keys_have_one_spelling, lots_have_one_spelling, numbers_have_one_spelling,
+    few_fields_tell, keys_have_one_spelling, lots_have_one_spelling, numbers_have_one_spelling,
     rows_have_one_spelling,
 };
 pub use number::{is_digits, read_number};

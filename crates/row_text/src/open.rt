@@ -17,10 +17,7 @@ pub fn read_open_record(fields: &[&[u8]]) -> Result<(Key, Record), FieldFault>
     ensures sound { IfOk result (λ row. is_sound_row row.0 row.1 ≡ true) }
 {
     if is_closed(fields) {
-        return Err(FieldFault {
-            field: 0,
-            rule: Rule::Shape,
-        });
+        return Err(FieldFault::at(0, Rule::Shape));
     }
     read_record(fields)
 }

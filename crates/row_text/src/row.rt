@@ -52,10 +52,7 @@ fn row_of_table(word: &[u8], fields: &[&[u8]]) -> Result<(Key, Record), FieldFau
     if is_word(word, b"BILL") {
         return bill(fields);
     }
-    Err(FieldFault {
-        field: 0,
-        rule: Rule::Shape,
-    })
+    Err(FieldFault::at(0, Rule::Shape))
 }
 
 #[tactic(auto, unfolding(crate::specs::Row::plan_of))]
@@ -74,10 +71,7 @@ fn days_at(fields: &[&[u8]], field: u32, start: Day) -> Result<u16, FieldFault>
 {
     let days = number_at(fields, field, 1, 400)?;
     if u64::from(start.number()) + days > 36525 {
-        return Err(FieldFault {
-            field,
-            rule: Rule::Range,
-        });
+        return Err(FieldFault::at(field, Rule::Range));
     }
     Ok(days as u16)
 }
@@ -99,7 +93,7 @@ fn week_at(fields: &[&[u8]], field: u32) -> Result<[bool; 7], FieldFault>
     let text = text_at(fields, field)?;
     match lot::week(text) {
         Ok(week) => Ok(week),
-        Err(rule) => Err(FieldFault { field, rule }),
+        Err(rule) => Err(FieldFault::at(field, rule)),
     }
 }
 
@@ -139,7 +133,7 @@ fn lot_at(fields: &[&[u8]], field: u32) -> Result<Lot, FieldFault>
     let text = text_at(fields, field)?;
     match lot::lot(text) {
         Ok(lot) => Ok(lot),
-        Err(rule) => Err(FieldFault { field, rule }),
+        Err(rule) => Err(FieldFault::at(field, rule)),
     }
 }
 
@@ -150,7 +144,7 @@ fn calendar_at(fields: &[&[u8]], field: u32) -> Result<Option<Name>, FieldFault>
     let text = text_at(fields, field)?;
     match lot::calendar(text) {
         Ok(calendar) => Ok(calendar),
-        Err(rule) => Err(FieldFault { field, rule }),
+        Err(rule) => Err(FieldFault::at(field, rule)),
     }
 }
 
@@ -229,10 +223,7 @@ fn to_at(fields: &[&[u8]], field: u32, from: Day) -> Result<Day, FieldFault>
 {
     let to = day_at(fields, field)?;
     if from.number() > to.number() {
-        return Err(FieldFault {
-            field,
-            rule: Rule::Range,
-        });
+        return Err(FieldFault::at(field, Rule::Range));
     }
     Ok(to)
 }

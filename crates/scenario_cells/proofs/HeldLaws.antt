@@ -11,10 +11,9 @@ use Rattle.plan_schema.specs.declared.key.Key.{Key}
 use Rattle.plan_schema.specs.declared.key.Record.{Record}
 use Rattle.plan_schema.specs.declared.change.CellName.{CellName}
 use Rattle.plan_schema.specs.Key.{key_cmp, cell_of}
-use Rattle.plan_schema.specs.Base.{is_part_key}
+use Rattle.plan_schema.specs.Base.{is_part_key, part_count}
 use Rattle.plan_schema.specs.Contents.{Contents, record_at, is_ordered, cell_rows}
 use Rattle.scenario_rules.specs.World.{OwnChanges, changed, laid_over, contents_of}
-use Rattle.scenario_rules.specs.Refused.{is_part_row}
 use Rattle.scenario_rules.proofs.Maps.{sorted_insert}
 use Rattle.scenario_rules.proofs.Keys.{key_total}
 use Rattle.scenario_rules.proofs.LaidOver.{ordered_changed}
@@ -124,7 +123,7 @@ module _ (cells : CellList) (point : ℕ) (h : Held) (key : Key) (new : Option R
   base_ids true cell = refl
   base_ids false cell = refl
 
-  is_changed_here : (root : Bool) (parts records : ℕ) → IsReady point root h → parts ≡ count_by is_part_row after → records ≡ length after
+  is_changed_here : (root : Bool) (parts records : ℕ) → IsReady point root h → parts ≡ part_count after → records ≡ length after
       → IsChanged point root ((key, new) ∷ []) (cell_at cells) (cell_at stored) h (next_held h (base_next root h ids_next) ids_next (own_next root h key new) parts records)
   is_changed_here root parts records ready ps rs = record {
     held = record {
@@ -133,7 +132,7 @@ module _ (cells : CellList) (point : ℕ) (h : Held) (key : Key) (new : Option R
       own_ordered = own_sorted root;
       base = base_meant root ready;
       contents = subst (λ c. AreMeant (cell_at stored) c (id_at ids_next)) (sym (contents_is root ready)) means;
-      parts = ps ∙ ap (count_by is_part_row) (sym (contents_is root ready));
+      parts = ps ∙ ap part_count (sym (contents_is root ready));
       records = rs ∙ ap length (sym (contents_is root ready));
     };
     scenario = scenario_is root parts records ready;
@@ -152,7 +151,7 @@ both false b = refl
 
 pub new_parts : (cells : CellList) (h : Held) (key : Key) (new : Option Record) (parts : ℕ) → IsHeld (cell_at cells) h
     → parts + cond (is_some (record_at (held_contents cells h) key) && is_part_key key) 1 0 ≡ h.parts + cond (is_some new && is_part_key key) 1 0
-    → parts ≡ count_by is_part_row (changed (held_contents cells h) key new)
+    → parts ≡ part_count (changed (held_contents cells h) key new)
 new_parts cells h key new parts held e =
     omega (arith, e, held.parts, parts_change (held_contents cells h) key new (contents_ordered cells h), both (is_some (record_at (held_contents cells h) key)) (is_part_key key), both (is_some new) (is_part_key key))
 
@@ -163,7 +162,7 @@ pub is_changed : (cells cells' : CellList) (point : ℕ) (root : Bool) (h : Held
     → cells' ≡ store_with cells (new_id point key) (new_rows cells h.ids key new)
     → own ≡ (if root then h.own else insert_entry key_cmp h.own key new)
     → base ≡ (if root then ids else h.base)
-    → parts ≡ count_by is_part_row (changed (held_contents cells h) key new) → records ≡ length (changed (held_contents cells h) key new)
+    → parts ≡ part_count (changed (held_contents cells h) key new) → records ≡ length (changed (held_contents cells h) key new)
     → IsChanged point root ((key, new) ∷ []) (cell_at cells) (cell_at cells') h (next_held h base ids own parts records)
 is_changed cells cells' point root h key new ids base own parts records held ready is cs os bs ps rs =
     let rows = rows_are cells h key new held in
@@ -180,7 +179,7 @@ records_are cells h key new records had has held is it e =
 
 pub parts_are : (cells : CellList) (h : Held) (key : Key) (new : Option Record) (parts : ℕ) (had has part : Bool) → IsHeld (cell_at cells) h
     → had ≡ is_some (record_at (held_contents cells h) key) → has ≡ is_some new → part ≡ is_part_key key → IsRecounted h.parts (had && part) (has && part) parts
-    → parts ≡ count_by is_part_row (changed (held_contents cells h) key new)
+    → parts ≡ part_count (changed (held_contents cells h) key new)
 parts_are cells h key new parts had has part held is it ps e =
     new_parts cells h key new parts held (subst (λ (q : Bool × Bool × Bool). IsRecounted h.parts (q.0 && q.2) (q.1 && q.2) parts) (λ i. (is i, it i, ps i)) e)
 

@@ -7,8 +7,8 @@ use Rattle.plan_schema.specs.declared.key.Record.{Record}
 use Rattle.plan_schema.specs.declared.change.CellName.{CellName}
 use Rattle.plan_schema.specs.Key.{key_cmp}
 use Rattle.plan_schema.specs.Contents.{Contents}
+use Rattle.plan_schema.specs.Base.{part_count}
 use Rattle.scenario_rules.specs.World.{OwnChanges, Scenario, changed, laid_over, contents_of}
-use Rattle.scenario_rules.specs.Refused.{is_part_row}
 use Rattle.record_versions.specs.declared.version.VersionId.{VersionId}
 use Rattle.record_versions.specs.Versions.{IdList, CellList, id_at, cell_at}
 use Rattle.version_rules.specs.Ids.{after_changes}
@@ -46,7 +46,7 @@ module _ (cells : CellList) (point : ℕ) (h : Held) (held : IsHeld (cell_at cel
         own_ordered = held.own_ordered;
         base = subst Q (own_same ∙ sym (base_same true ready)) held.contents;
         contents = subst P (sym same) held.contents;
-        parts = held.parts ∙ ap (λ x. count_by is_part_row (contents_of x)) (sym same);
+        parts = held.parts ∙ ap (λ x. part_count (contents_of x)) (sym same);
         records = held.records ∙ ap (λ x. length (contents_of x)) (sym same);
       }
   begun_held false ready = held
@@ -87,7 +87,7 @@ pub row_loaded : (cells cells' : CellList) (point : ℕ) (root : Bool) (h : Held
     → ids ≡ renewed_ids l.ids (new_id point key) (new_rows cells l.ids key new)
     → cells' ≡ store_with cells (new_id point key) (new_rows cells l.ids key new)
     → own ≡ (if root then l.own else insert_entry key_cmp l.own key new)
-    → parts ≡ count_by is_part_row (changed (held_contents cells (held_with root h l)) key new) → records ≡ length (changed (held_contents cells (held_with root h l)) key new)
+    → parts ≡ part_count (changed (held_contents cells (held_with root h l)) key new) → records ≡ length (changed (held_contents cells (held_with root h l)) key new)
     → IsChanged point root ((key, new) ∷ []) (cell_at cells) (cell_at cells') (held_with root h l) (held_with root h (record { ids = ids; own = own; parts = parts; records = records }))
 row_loaded cells cells' point root h l key new ids own parts records held ready is cs os ps rs =
     is_changed cells cells' point root (held_with root h l) key new ids (if root then ids else h.base) own parts records held ready is cs os (base_is root) ps rs

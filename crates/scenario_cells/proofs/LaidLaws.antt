@@ -17,10 +17,9 @@ use Rattle.plan_schema.specs.declared.key.Record.{Record}
 use Rattle.plan_schema.specs.declared.change.CellName.{CellName}
 use Rattle.plan_schema.specs.Key.{key_cmp, cell_of}
 use Rattle.plan_schema.specs.Cell.{cell_cmp, cell_eq}
-use Rattle.plan_schema.specs.Base.{is_part_key}
+use Rattle.plan_schema.specs.Base.{is_part_key, part_count}
 use Rattle.plan_schema.specs.Contents.{Contents, record_at, is_ordered, cell_rows}
 use Rattle.scenario_rules.specs.World.{OwnChanges, changed, laid_over}
-use Rattle.scenario_rules.specs.Refused.{is_part_row}
 use Rattle.scenario_rules.proofs.Maps.{lookup_insert, lookup_remove_same, lookup_remove_other, sorted_insert, sorted_remove}
 use Rattle.scenario_rules.proofs.LaidOver.{ordered_changed, others_show}
 use Rattle.record_versions.specs.declared.version.VersionId.{VersionId}
@@ -232,7 +231,7 @@ module _ (point : ℕ) (above : IdList) (child : Held) (first cells : CellList) 
   record_above none =
       ap (λ rows. record_at rows k) (above_rows n) ∙ row_found a n k ∙ ap (λ b. cond b (record_at a k) None) in_cell ∙ sym (untouched a done k oa none)
 
-  pub laid_next : (parts records : ℕ) → parts ≡ count_by is_part_row c' → records ≡ length c'
+  pub laid_next : (parts records : ℕ) → parts ≡ part_count c' → records ≡ length c'
       → IsLaid point a (id_at above) kid done' cells' (record { ids = ids'; parts = parts; records = records })
   laid_next parts records ps rs =
       let more = sym (laid_more a done k new) in
@@ -240,7 +239,7 @@ module _ (point : ℕ) (above : IdList) (child : Held) (first cells : CellList) 
         ordered = ordered_next;
         ids = λ q. ids_next q ∙ ap (λ x. joined_ids point x done' (id_at above) kid q) more;
         gives = subst (λ x. Give (cell_at cells') point x (joins_anew done' (id_at above) kid)) more gives_next;
-        parts = ps ∙ ap (count_by is_part_row) more;
+        parts = ps ∙ ap part_count more;
         records = rs ∙ ap length more;
       }
 
@@ -248,8 +247,8 @@ both : (a b : Bool) → ◌≡◌ {A = ℕ} (cond a (cond b 1 0) 0) (cond (a && 
 both true b = refl
 both false b = refl
 
-pub parts_next : (c : Contents) (k : Key) (new : Option Record) (count parts : ℕ) (had has part : Bool) → is_ordered c ≡ true → count ≡ count_by is_part_row c
-    → had ≡ is_some (record_at c k) → has ≡ is_some new → part ≡ is_part_key k → IsRecounted count (had && part) (has && part) parts → parts ≡ count_by is_part_row (changed c k new)
+pub parts_next : (c : Contents) (k : Key) (new : Option Record) (count parts : ℕ) (had has part : Bool) → is_ordered c ≡ true → count ≡ part_count c
+    → had ≡ is_some (record_at c k) → has ≡ is_some new → part ≡ is_part_key k → IsRecounted count (had && part) (has && part) parts → parts ≡ part_count (changed c k new)
 parts_next c k new count parts had has part o ct is it ps e =
     let e' : parts + cond (is_some (record_at c k) && is_part_key k) 1 0 ≡ count + cond (is_some new && is_part_key k) 1 0 =
     subst (λ (q : Bool × Bool × Bool). IsRecounted count (q.0 && q.2) (q.1 && q.2) parts) (λ i. (is i, it i, ps i)) e in
@@ -286,6 +285,6 @@ none_before (d ∷ ds) k new rest h =
     apart Greater h = refl
 
 -- nothing is laid at first
-pub laid_first : (point : ℕ) (cells : CellList) (above child : Held) (contents : Contents) (parts records : ℕ) → are_ordered_ids above.ids ≡ true → parts ≡ count_by is_part_row contents → records ≡ length contents
+pub laid_first : (point : ℕ) (cells : CellList) (above child : Held) (contents : Contents) (parts records : ℕ) → are_ordered_ids above.ids ≡ true → parts ≡ part_count contents → records ≡ length contents
     → IsLaid point contents (id_at above.ids) (ids_of_held child) [] cells (record { ids = above.ids; parts = parts; records = records })
 laid_first point cells above child contents parts records o ps rs = record { ordered = o; ids = λ q. refl; gives = λ q anew some. absurd (let no : ⊥ = cc in no); parts = ps; records = rs }

@@ -10,12 +10,11 @@ use Rattle.plan_schema.specs.declared.key.Record.{Record}
 use Rattle.plan_schema.specs.declared.refusal.Refusal.TheVariants as refusals
 use Rattle.plan_schema.specs.declared.refusal.Room.TheVariants as rooms
 use Rattle.plan_schema.specs.Key.{key_cmp}
-use Rattle.plan_schema.specs.Base.{is_part_key}
+use Rattle.plan_schema.specs.Base.{is_part_key, part_count}
 use Rattle.plan_schema.specs.Contents.{Contents, record_at, is_ordered, with_record}
 use Rattle.plan_schema.specs.Refusals.{first_of, where_so}
 use Rattle.scenario_rules.specs.World.{OwnChanges, changed, laid_over}
 use Rattle.scenario_rules.specs.Steps.{all_put}
-use Rattle.scenario_rules.specs.Refused.{is_part_row}
 use Rattle.scenario_rules.proofs.Maps.{lookup_insert}
 use Rattle.scenario_rules.proofs.Keys.{key_total}
 use Rattle.scenario_rules.proofs.LaidOver.{ordered_changed}
@@ -55,7 +54,7 @@ tally_next c done t t' k new had has o so_far is it e =
         let ol = ordered_laid c done o in
         let more = laid_more c done k new in
         let longer : length (done ++ (k, new) ∷ []) ≡ length done + 1 = length-append done ((k, new) ∷ []) in
-        let parts_are : count_by is_part_row (laid_over c (done ++ (k, new) ∷ [])) ≡ count_by is_part_row (changed (laid_over c done) k new) = ap (count_by is_part_row) more in
+        let parts_are : part_count (laid_over c (done ++ (k, new) ∷ [])) ≡ part_count (changed (laid_over c done) k new) = ap part_count more in
         let rows_are : length (laid_over c (done ++ (k, new) ∷ [])) ≡ length (changed (laid_over c done) k new) = ap length more in
         let few = so_far.few in
         record {
@@ -73,7 +72,7 @@ tally_next c done t t' k new had has o so_far is it e =
 one_more : (c : Contents) (k : Key) (new : Option Record) → is_ordered c ≡ true → length (changed c k new) ≤ length c + 1
 one_more c k new o = omega (arith, length_change c k new o, at_most_one (is_some new))
 
-one_part_more : (c : Contents) (k : Key) (new : Option Record) → is_ordered c ≡ true → count_by is_part_row (changed c k new) ≤ count_by is_part_row c + 1
+one_part_more : (c : Contents) (k : Key) (new : Option Record) → is_ordered c ≡ true → part_count (changed c k new) ≤ part_count c + 1
 one_part_more c k new o =
     omega (arith, parts_change c k new o, both (is_some new) (is_part_key k), at_most_one (is_some new && is_part_key k))
 
@@ -81,7 +80,7 @@ pub rows_bound : (c : Contents) (later : OwnChanges) → is_ordered c ≡ true �
 rows_bound c [] o = omega arith
 rows_bound c (d ∷ ds) o = omega (arith, rows_bound (changed c d.0 d.1) ds (ordered_changed c d.0 d.1 o), one_more c d.0 d.1 o)
 
-pub parts_bound : (c : Contents) (later : OwnChanges) → is_ordered c ≡ true → count_by is_part_row (laid_over c later) ≤ count_by is_part_row c + length later
+pub parts_bound : (c : Contents) (later : OwnChanges) → is_ordered c ≡ true → part_count (laid_over c later) ≤ part_count c + length later
 parts_bound c [] o = omega arith
 parts_bound c (d ∷ ds) o = omega (arith, parts_bound (changed c d.0 d.1) ds (ordered_changed c d.0 d.1 o), one_part_more c d.0 d.1 o)
 

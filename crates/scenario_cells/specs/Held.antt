@@ -4,9 +4,9 @@ use Rattle.std.specs.FinMap.{is_sorted}
 use Rattle.plan_schema.specs.declared.change.CellName.{CellName}
 use Rattle.plan_schema.specs.Key.{key_cmp}
 use Rattle.plan_schema.specs.Contents.{Contents}
+use Rattle.plan_schema.specs.Base.{part_count}
 use Rattle.scenario_rules.specs.World.{OwnChanges, Scenario, laid_over, contents_of}
 use Rattle.scenario_rules.specs.Steps.{joined, all_put}
-use Rattle.scenario_rules.specs.Refused.{is_part_row}
 use Rattle.record_versions.specs.declared.version.VersionId.{VersionId}
 use Rattle.record_versions.specs.Versions.{IdList, CellList, id_at, are_ordered_ids, cell_at}
 use Rattle.version_rules.specs.Ids.{ScenarioIds, after_changes}
@@ -47,7 +47,7 @@ pub record IsHeld (m : Meaning) (h : Held) : Type 0 where
   pub own_ordered : is_sorted key_cmp h.own ≡ true
   pub base : AreMeant m (contents_by m h.base) (id_at h.base)
   pub contents : AreMeant m (contents_of (scenario_by m h)) (id_at h.ids)
-  pub parts : h.parts ≡ count_by is_part_row (contents_of (scenario_by m h))
+  pub parts : h.parts ≡ part_count (contents_of (scenario_by m h))
   pub records : h.records ≡ length (contents_of (scenario_by m h))
 
 -- the cells of ids of other entries are as before

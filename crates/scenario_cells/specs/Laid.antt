@@ -9,8 +9,8 @@ use Rattle.plan_schema.specs.declared.key.Record.{Record}
 use Rattle.plan_schema.specs.declared.change.CellName.{CellName}
 use Rattle.plan_schema.specs.Key.{key_cmp, cell_of}
 use Rattle.plan_schema.specs.Contents.{Contents, is_ordered}
+use Rattle.plan_schema.specs.Base.{part_count}
 use Rattle.scenario_rules.specs.World.{OwnChanges, laid_over}
-use Rattle.scenario_rules.specs.Refused.{is_part_row}
 use Rattle.record_versions.specs.declared.version.VersionId.{VersionId}
 use Rattle.record_versions.specs.Versions.{IdList, CellList, id_at, with_id, without_id, are_ordered_ids, cell_at}
 use Rattle.version_rules.specs.Ids.{CellIds, ScenarioIds, same_id, joined_ids, joins_anew}
@@ -39,7 +39,7 @@ pub record IsLaid (point : ℕ) (contents : Contents) (above : CellIds) (child :
   pub ordered : are_ordered_ids laid.ids ≡ true
   pub ids : (cell : CellName) → id_at laid.ids cell ≡ joined_ids point (laid_over contents done) done above child cell
   pub gives : Give (cell_at cells) point (laid_over contents done) (joins_anew done above child)
-  pub parts : laid.parts ≡ count_by is_part_row (laid_over contents done)
+  pub parts : laid.parts ≡ part_count (laid_over contents done)
   pub records : laid.records ≡ length (laid_over contents done)
 
 -- ids of entries before this one

@@ -5,7 +5,7 @@ ghost use Rattle.plan_schema.specs.Contents.{is_ordered};
 ghost use Rattle.scenario_rules.specs.World as world;
 ghost use Rattle.scenario_cells.specs.Grouped.{IsGrouped};
 
-use crate::held::{Held, is_part};
+use crate::held::Held;
 use crate::rows::put_row_in;
 use cell_tree::Tree;
 use plan_schema::{Contents, Name};
@@ -33,19 +33,6 @@ pub fn regroup(alloc: Global, contents: &Contents) -> Result<Grouped, AllocError
         put_row_in(alloc, &mut ids, &mut store, 0, key, &Some(*value))?;
     }
     Ok(Grouped { store, ids })
-}
-
-/// How many parts there are.
-pub fn count_parts(records: &Contents) -> usize
-    ensures { result ≡ part_count records.now }
-{
-    let mut count = 0;
-    for (key, _) in records.iter() {
-        if is_part(key) {
-            count += 1;
-        }
-    }
-    count
 }
 
 /// Whether a name is the root's.

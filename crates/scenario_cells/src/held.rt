@@ -50,7 +50,7 @@ pub fn change_row(
     let had = row(&held.ids, store, key).is_some();
     let has = value.is_some();
     let records = recount(held.records, had, has)?;
-    let part = is_part(key);
+    let part = key.is_part();
     let parts = recount_if(part, held.parts, had, has)?;
     let ids = put_row(alloc, &held.ids, store, point, key, value)?;
     let base = either(root, &ids, &held.base)?;
@@ -139,7 +139,7 @@ fn load_row(
     let had = row(&loaded.ids, store, key).is_some();
     let has = value.is_some();
     let records = recount(loaded.records, had, has)?;
-    let part = is_part(key);
+    let part = key.is_part();
     let parts = recount_if(part, loaded.parts, had, has)?;
     add_own(alloc, &mut loaded.own, root, key, value)?;
     put_row_in(alloc, &mut loaded.ids, store, point, key, value)?;
@@ -172,10 +172,4 @@ pub(crate) fn either(first: bool, ids: &Ids, others: &Ids) -> Result<Ids, AllocE
     ensures { IfOk result (λ chosen. chosen ≡ (if first then ids.now else others.now)) }
 {
     if first { ids.share() } else { others.share() }
-}
-
-pub(crate) fn is_part(key: &Key) -> bool
-    ensures { result ≡ is_part_key key.now }
-{
-    matches!(key, Key::Part(_))
 }

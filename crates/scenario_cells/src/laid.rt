@@ -13,7 +13,7 @@ ghost use Rattle.plan_schema.specs.Key.{key_cmp};
 ghost use Rattle.scenario_rules.specs.World.{contents_of};
 ghost use Rattle.record_versions.specs.Versions.{cell_at, id_at};
 
-use crate::held::{Held, either, is_part};
+use crate::held::{Held, either};
 use crate::rows::{put_row_in, recount, recount_if, row};
 use cell_tree::Tree;
 use plan_schema::{CellName, Key, Name, Record};
@@ -71,7 +71,7 @@ fn lay_row(
     let had = row(&above.ids, store, key).is_some();
     let has = value.is_some();
     let records = recount(laid.records, had, has)?;
-    let part = is_part(key);
+    let part = key.is_part();
     let parts = recount_if(part, laid.parts, had, has)?;
     lay_id(alloc, above, child, &mut laid.ids, store, point, key, value)?;
     laid.parts = parts;

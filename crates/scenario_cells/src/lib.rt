@@ -10,7 +10,7 @@ mod room;
 mod rows;
 
 pub use conflicts::conflict;
-pub use group::{Grouped, count_parts, is_root, regroup, root_held, root_name};
+pub use group::{Grouped, is_root, regroup, root_held, root_name};
 pub use held::{Held, change_row, changed_rows};
 pub use laid::{Laid, based, branched, given, lay_all, settled, shared};
 pub use room::{one_room, own_room, rows_room};

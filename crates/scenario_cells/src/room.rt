@@ -14,7 +14,7 @@ ghost use Rattle.record_versions.specs.Versions.{cell_at};
 ghost use Rattle.scenario_cells.specs.Held.{IsHeld, scenario_by};
 ghost use Rattle.scenario_cells.specs.Room.{refused_counts, refused_contents, next_tally, AreAtMost};
 
-use crate::held::{Held, is_part};
+use crate::held::Held;
 use crate::rows::row;
 use plan_schema::limits::{PART_LIMIT, RECORD_LIMIT};
 use plan_schema::{Key, Record, Refusal, Room};
@@ -59,7 +59,7 @@ fn tallied(tally: &Tally, key: &Key, had: bool, has: bool) -> Tally
     requires { AreAtMost (2 ^ 64 - 2) tally.now }
     ensures { result ≡ next_tally tally.now key.now had has }
 {
-    let part = is_part(key);
+    let part = key.is_part();
     let parts_before = counted_if(tally.parts_before, had, part);
     let parts_after = counted_if(tally.parts_after, has, part);
     let rows_before = counted(tally.rows_before, had);

@@ -6,7 +6,6 @@ use Rattle.plan_schema.specs.Key.{name_eq}
 use Rattle.plan_schema.specs.Base.{part_count}
 use Rattle.plan_schema.specs.Contents.{Contents}
 use Rattle.scenario_rules.specs.World.{root, begin_with}
-use Rattle.scenario_rules.specs.Refused.{is_part_row}
 use Rattle.scenario_rules.specs.Whole.{AreWholeContents, AreWithinLimits, IsWhole}
 use Rattle.scenario_rules.proofs.HistoryLaws.{begin_whole}
 use Rattle.record_versions.specs.Versions.{IdList, CellList, id_at, cell_at}
@@ -17,7 +16,6 @@ use Rattle.scenario_cells.specs.Held.{contents_by, cell_ids, listed, IsHeld}
 use Rattle.scenario_merge.specs.Grown.{grown, world_by, ids_where, ids_in, IsForest}
 use Rattle.scenario_cells.specs.Grouped.{IsGrouped}
 use Rattle.scenario_cells.proofs.Join.{join_is}
-use Rattle.scenario_rules.proofs.Counts.{part_rows}
 
 abbrev pub root_held : IdList → ℕ → ℕ → Held
 root_held ids parts records = record { parent = None; owner = None; private = false; base = ids; ids = ids; own = []; parts = parts; records = records }
@@ -45,7 +43,7 @@ module _ (contents : Contents) (cells : CellList) (ids : IdList) (parts records 
         own_ordered = refl;
         base = means;
         contents = means;
-        parts = ps ∙ sym (ap (λ f. count_by f contents) part_rows) ∙ ap (count_by is_part_row) (sym same);
+        parts = ps ∙ ap part_count (sym same);
         records = rs ∙ ap length (sym same);
       }
 

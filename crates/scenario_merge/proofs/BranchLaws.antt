@@ -5,9 +5,9 @@ use Rattle.std.specs.BTreeMap.{insert_entry}
 use Rattle.plan_schema.specs.declared.name.Name.{Name}
 use Rattle.plan_schema.specs.declared.change.Change.TheVariants as changes
 use Rattle.plan_schema.specs.Key.{name_cmp}
+use Rattle.plan_schema.specs.Base.{part_count}
 use Rattle.scenario_rules.specs.World.{World, scenario, with_scenario, contents_of, contents_in}
 use Rattle.scenario_rules.specs.Steps.{step}
-use Rattle.scenario_rules.specs.Refused.{is_part_row}
 use Rattle.scenario_rules.specs.Whole.{IsWhole}
 use Rattle.scenario_rules.proofs.Wholeness.{scenario_is}
 use Rattle.record_versions.specs.Versions.{CellList, id_at, cell_at}
@@ -40,7 +40,7 @@ branch_done entries entries' cells old point user s child above view forest at w
       own_ordered = refl;
       base = means;
       contents = means;
-      parts = its.parts ∙ ap (count_by is_part_row) (sym joined);
+      parts = its.parts ∙ ap part_count (sym joined);
       records = its.records ∙ ap length (sym joined);
     } in
     let z_is : scenario w s ≡ scenario_by m above = scenario_is w s (scenario_by m above) (scenario_here m entries s above at) in

@@ -8,9 +8,9 @@ use Rattle.plan_schema.specs.declared.name.Name.{Name}
 use Rattle.plan_schema.specs.declared.change.Change.TheVariants as changes
 use Rattle.plan_schema.specs.Key.{name_cmp, name_eq, key_cmp}
 use Rattle.plan_schema.specs.Contents.{Contents, is_ordered}
+use Rattle.plan_schema.specs.Base.{part_count}
 use Rattle.scenario_rules.specs.World.{World, Scenario, is_root, scenario, with_scenario, parent_of, laid_over, contents_of, contents_in}
 use Rattle.scenario_rules.specs.Steps.{joined, step, with_changes}
-use Rattle.scenario_rules.specs.Refused.{is_part_row}
 use Rattle.scenario_rules.specs.Whole.{IsWhole}
 use Rattle.scenario_rules.proofs.Maps.{lookup_insert}
 use Rattle.scenario_rules.proofs.Keys.{name_total}
@@ -89,7 +89,7 @@ module _ (cells cells' : CellList) (point : ℕ) (above child : Held) (laid : La
         own_ordered = refl;
         base = means;
         contents = means;
-        parts = is.parts ∙ ap (count_by is_part_row) (sym over_joined);
+        parts = is.parts ∙ ap part_count (sym over_joined);
         records = is.records ∙ ap length (sym over_joined);
       }
 
@@ -131,7 +131,7 @@ module _ (cells cells' : CellList) (point : ℕ) (above child : Held) (laid : La
         own_ordered = own_sorted root;
         base = given_base root rooted;
         contents = subst (λ c. AreMeant (cell_at cells') c (id_at laid.ids)) (sym shows) over_means;
-        parts = is.parts ∙ ap (count_by is_part_row) (sym shows);
+        parts = is.parts ∙ ap part_count (sym shows);
         records = is.records ∙ ap length (sym shows);
       }
 

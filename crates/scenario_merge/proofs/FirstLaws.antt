@@ -9,15 +9,16 @@ use Rattle.plan_schema.specs.declared.refusal.Refusal.TheVariants as refusals
 use Rattle.plan_schema.specs.Key.{name_eq}
 use Rattle.plan_schema.specs.Contents.{Contents}
 use Rattle.plan_schema.specs.Refusals.{first_of}
+use Rattle.plan_schema.specs.Base.{part_count}
 use Rattle.scenario_rules.specs.World.{World, Scenario, is_root, root_with, scenario_at, scenario, with_scenario, parent_of, contents_of, contents_in, laid_over}
 use Rattle.scenario_rules.specs.Steps.{with_changes}
-use Rattle.scenario_rules.specs.Refused.{denied_above, denied_unowned, taken, at_root, has_children, too_deep, full_scenarios, conflict, named, no_scenario, denied, access_refusal, scenario_refusal, is_part_row, changed_contents}
+use Rattle.scenario_rules.specs.Refused.{denied_above, denied_unowned, taken, at_root, has_children, too_deep, full_scenarios, conflict, named, no_scenario, denied, access_refusal, scenario_refusal, changed_contents}
 use Rattle.scenario_rules.specs.Whole.{AreWithinLimits, IsWhole}
 use Rattle.scenario_rules.proofs.StepLaws.{not_so, not_root}
 use Rattle.scenario_rules.proofs.Wholeness.{scenario_is, here_after, there_after, gone_after, one_name}
 use Rattle.version_rules.proofs.StepMeans.{there, contents_after}
 use Rattle.scenario_cells.specs.Room.{refused_contents}
-use Rattle.scenario_merge.specs.Lines.{later_lines, later_refusal}
+use Rattle.scenario_rules.specs.Refused.{later_rules, later_refusal}
 use Rattle.scenario_cells.proofs.RoomLaws.{within}
 
 pub passes : (a : Option Refusal) (rest : List (Option Refusal)) → a ≡ None → first_of (a ∷ rest) ≡ first_of rest
@@ -41,10 +42,10 @@ two_stop None (Some q) rest r e = e
 two_stop (Some q) b rest r e = e
 
 pub access_passes : (w : World) (user : Name) (change : Change) → access_refusal w user (named change) ≡ None → scenario_refusal w user change ≡ later_refusal w user change
-access_passes w user change e = two_pass (no_scenario w (named change)) (denied w user (named change)) (later_lines w user change) e
+access_passes w user change e = two_pass (no_scenario w (named change)) (denied w user (named change)) (later_rules w user change) e
 
 pub access_stops : (w : World) (user : Name) (change : Change) (r : Refusal) → access_refusal w user (named change) ≡ Some r → scenario_refusal w user change ≡ Some r
-access_stops w user change r e = two_stop (no_scenario w (named change)) (denied w user (named change)) (later_lines w user change) r e
+access_stops w user change r e = two_stop (no_scenario w (named change)) (denied w user (named change)) (later_rules w user change) r e
 
 -- then the named scenario is there
 pub accessed : (w : World) (user s : Name) → access_refusal w user s ≡ None → IsSome (scenario_at w s)
@@ -61,7 +62,7 @@ accessed w user s e = some (scenario_at w s) (not_so (is_none (scenario_at w s))
 -- room for what a change leaves in the scenario that it changes -----------------------------------------------------------------------
 
 fit : (c : Contents) → AreWithinLimits c → refused_contents c ≡ None
-fit c limits = within (count_by is_part_row c) (length c) limits.parts limits.records
+fit c limits = within (part_count c) (length c) limits.parts limits.records
 
 contents_here : (w : World) (s : Name) (y : Scenario) → contents_in (with_scenario w s y) s ≡ contents_of y
 contents_here w s y = ap contents_of (scenario_is (with_scenario w s y) s y (here_after w s y))
@@ -118,12 +119,12 @@ tail4 os = tail2 (tail2 os)
 
 pub share_later : (w : World) (user s : Name) → IsWhole w → IsSome (scenario_at w s) → denied_unowned w user s ≡ None → later_refusal w user (changes.Share s) ≡ at_root (changes.Share s)
 share_later w user s whole h owner =
-    let lines = later_lines w user (changes.Share s) in
+    let lines = later_rules w user (changes.Share s) in
     passes (denied_unowned w user s) (tail2 lines) owner ∙ last (at_root (changes.Share s)) (tail4 lines) (share_fits w user s whole h)
 
 pub drop_later : (w : World) (user s : Name) → IsWhole w → denied_unowned w user s ≡ None → at_root (changes.Drop s) ≡ None → later_refusal w user (changes.Drop s) ≡ has_children w (changes.Drop s)
 drop_later w user s whole owner other =
-    let lines = later_lines w user (changes.Drop s) in
+    let lines = later_rules w user (changes.Drop s) in
     passes (denied_unowned w user s) (tail2 lines) owner ∙ passes (at_root (changes.Drop s)) (tail4 lines) other
     ∙ last (has_children w (changes.Drop s)) (tail (tail4 lines)) (drop_fits w user s whole)
 
@@ -131,18 +132,18 @@ pub branch_later : (w : World) (user s child : Name) → IsWhole w → IsSome (s
     → later_refusal w user (changes.Branch s child) ≡ full_scenarios w (changes.Branch s child)
 branch_later w user s child whole h free shallow =
     let change = changes.Branch s child in
-    let lines = later_lines w user change in
+    let lines = later_rules w user change in
     passes (taken w change) (tail (tail2 lines)) free ∙ passes (too_deep w change) (tail2 (tail4 lines)) shallow ∙ last (full_scenarios w change) (tail (tail2 (tail4 lines))) (branch_fits w user s whole h child)
 
 pub update_later : (w : World) (user s : Name) → IsWhole w → IsSome (scenario_at w s) → denied_above w user s ≡ None → at_root (changes.Update s) ≡ None
     → later_refusal w user (changes.Update s) ≡ refused_contents (laid_over (contents_in w (parent_of (scenario w s))) (scenario w s).own)
 update_later w user s whole h above other =
-    let lines = later_lines w user (changes.Update s) in
+    let lines = later_rules w user (changes.Update s) in
     passes (denied_above w user s) (tail lines) above ∙ passes (at_root (changes.Update s)) (tail4 lines) other ∙ ap refused_contents (update_leaves w user s whole h)
 
 pub commit_later : (w : World) (user s : Name) → IsWhole w → IsSome (scenario_at w s) → denied_above w user s ≡ None → at_root (changes.Commit s) ≡ None → conflict w (changes.Commit s) ≡ None
     → later_refusal w user (changes.Commit s) ≡ refused_contents (laid_over (contents_in w (parent_of (scenario w s))) (scenario w s).own)
 commit_later w user s whole h above other same =
-    let lines = later_lines w user (changes.Commit s) in
+    let lines = later_rules w user (changes.Commit s) in
     passes (denied_above w user s) (tail lines) above ∙ passes (at_root (changes.Commit s)) (tail4 lines) other ∙ passes (conflict w (changes.Commit s)) (tail (tail4 (tail4 lines))) same
     ∙ ap refused_contents (commit_leaves w user s whole h (not_root s other))

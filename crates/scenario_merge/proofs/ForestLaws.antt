@@ -1,6 +1,5 @@
 -- A forest after the store has new cells, and after a scenario has changed.
 use Rattle.std.proofs.Common.{◌≡◌, ◌≢◌, ℕ, ◌<◌, List, [], ◌∷◌, refl, sym, ◌∙◌, ap, subst, Bool, true, false, cond, ◌&&◌, arith, length}
-use Rattle.scenario_rules.specs.Refused.{is_part_row}
 use Rattle.std.specs.declared.cmp.Ordering.{Ordering}
 use Rattle.std.specs.Prelude.{Result, Ok, Err, OnErr, count_by, Option, Some, None, if◌then◌else◌, unwrap_or, IsSome}
 use Rattle.std.specs.Option.{option_map}
@@ -13,6 +12,7 @@ use Rattle.std.specs.FinMap.Entries.{below_all}
 use Rattle.plan_schema.specs.declared.name.Name.{Name}
 use Rattle.plan_schema.specs.declared.change.CellName.{CellName}
 use Rattle.plan_schema.specs.Key.{name_cmp, name_eq}
+use Rattle.plan_schema.specs.Base.{part_count}
 use Rattle.scenario_rules.specs.World.{OwnChanges, World, Scenario, is_root, scenario_at, laid_over, contents_of, contents_in}
 use Rattle.scenario_rules.specs.Steps.{with_changes}
 use Rattle.scenario_rules.specs.Whole.{IsWhole}
@@ -95,7 +95,7 @@ held_stays m m' h held kb kc =
       own_ordered = held.own_ordered;
       base = subst P (sym same) (all_kept m m' (contents_by m h.base) (id_at h.base) kb held.base);
       contents = subst Q (sym same) (all_kept m m' (contents_of (scenario_by m h)) (id_at h.ids) kc held.contents);
-      parts = held.parts ∙ ap (λ x. count_by is_part_row (contents_of x)) (sym same);
+      parts = held.parts ∙ ap (λ x. part_count (contents_of x)) (sym same);
       records = held.records ∙ ap (λ x. length (contents_of x)) (sym same);
     }
 

@@ -7,9 +7,9 @@ use Rattle.plan_schema.specs.declared.name.Name.{Name}
 use Rattle.plan_schema.specs.declared.change.Change.TheVariants as changes
 use Rattle.plan_schema.specs.Key.{name_cmp, name_eq}
 use Rattle.plan_schema.specs.Contents.{Contents}
+use Rattle.plan_schema.specs.Base.{part_count}
 use Rattle.scenario_rules.specs.World.{World, Scenario, scenario, with_scenario, parent_of, laid_over, contents_of, contents_in}
 use Rattle.scenario_rules.specs.Steps.{step}
-use Rattle.scenario_rules.specs.Refused.{is_part_row}
 use Rattle.scenario_rules.specs.Whole.{IsWhole}
 use Rattle.scenario_rules.proofs.Maps.{lookup_insert}
 use Rattle.scenario_rules.proofs.Keys.{name_total}
@@ -97,7 +97,7 @@ module _ (cells cells' : CellList) (point : ℕ) (above child : Held) (laid : La
         own_ordered = mine.own_ordered;
         base = subst P (sym based_scenario) base_means;
         contents = subst Q (sym based_scenario) laid_means;
-        parts = is.parts ∙ ap (λ x. count_by is_part_row (contents_of x)) (sym based_scenario);
+        parts = is.parts ∙ ap (λ x. part_count (contents_of x)) (sym based_scenario);
         records = is.records ∙ ap (λ x. length (contents_of x)) (sym based_scenario);
       }
 

@@ -1,4 +1,3 @@
 pub mod Grown
 pub mod Faults
-pub mod Lines
 pub mod Tree

@@ -26,7 +26,7 @@ use crate::tree::access;
 use plan_schema::{Change, Contents, Key, Name, Record, Refusal};
 use record_versions::{IdSet, Ids, Store};
 use scenario_cells::{
-    Held, based, branched, change_row, changed_rows, count_parts, given, is_root, lay_all, regroup,
+    Held, based, branched, change_row, changed_rows, given, is_root, lay_all, regroup,
     root_held, root_name, settled, shared,
 };
 use std::alloc::{AllocError, Global};
@@ -82,7 +82,7 @@ impl Forest {
         ensures ids { IfOk result (λ forest. ids_in forest ≡ begin_ids contents.now) }
     {
         let grouped = regroup(alloc, contents)?;
-        let held = root_held(alloc, grouped.ids, count_parts(contents), contents.len())?;
+        let held = root_held(alloc, grouped.ids, contents.parts(), contents.len())?;
         let Some(root) = root_name() else {
             return Err(AllocError);
         };

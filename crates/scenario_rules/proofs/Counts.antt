@@ -12,12 +12,11 @@ use Rattle.std.specs.Cmp.{IsTotalOrder}
 use Rattle.scenario_rules.proofs.Maps.{is_equal, length_insert}
 use Rattle.scenario_rules.proofs.Keys.{key_total, key_exact}
 use Rattle.scenario_rules.specs.World.{changed}
-use Rattle.scenario_rules.specs.Refused.{is_part_row}
 use Rattle.plan_schema.specs.declared.key.Key.{Key}
 use Rattle.plan_schema.specs.declared.key.Key.TheVariants as keys
 use Rattle.plan_schema.specs.declared.key.Record.{Record}
 use Rattle.plan_schema.specs.Key.{key_cmp}
-use Rattle.plan_schema.specs.Base.{is_part_key}
+use Rattle.plan_schema.specs.Base.{is_part_key, part_count}
 use Rattle.plan_schema.specs.Contents.{Contents, record_at, is_ordered, with_record}
 
 module _ {K X : Type 0} (R : K → K → Ordering) (test : K → Bool) where
@@ -93,19 +92,9 @@ counted_change test c k (Some v) h = by_cases (is_some (record_at c k)) (passing
     by_cases false p = omega (arith, p)
 counted_change test c k None h = omega (arith, passing_taken key_cmp test key_exact k c)
 
--- a row is a part's where its key is
-pub part_rows : is_part_row ≡ (λ row. is_part_key row.0)
-part_rows = λ i row. same row i
-  where
-    same : (row : Key × Record) → is_part_row row ≡ is_part_key row.0
-    same (keys.Part name, value) = refl
-    same _ = refl
-
 pub parts_change : (c : Contents) (k : Key) (new : Option Record) → is_ordered c ≡ true
-    → count_by is_part_row (changed c k new) + one_if (is_some (record_at c k)) (is_part_key k) ≡ count_by is_part_row c + one_if (is_some new) (is_part_key k)
-parts_change c k new h =
-    let P : ((Key × Record) → Bool) → Type 0 = λ f. count_by f (changed c k new) + one_if (is_some (record_at c k)) (is_part_key k) ≡ count_by f c + one_if (is_some new) (is_part_key k) in
-    subst P (sym part_rows) (counted_change is_part_key c k new h)
+    → part_count (changed c k new) + one_if (is_some (record_at c k)) (is_part_key k) ≡ part_count c + one_if (is_some new) (is_part_key k)
+parts_change c k new h = counted_change is_part_key c k new h
 
 pub length_change : (c : Contents) (k : Key) (new : Option Record) → is_ordered c ≡ true
     → length (changed c k new) + cond (is_some (record_at c k)) 1 0 ≡ length c + cond (is_some new) 1 0

@@ -17,9 +17,10 @@ use Rattle.plan_schema.specs.Key.{name_eq, key_cmp}
 use Rattle.plan_schema.specs.Contents.{record_at}
 use Rattle.plan_schema.specs.Sound.{is_sound_row, are_sound_rows}
 use Rattle.plan_schema.specs.Refusals.{first_of, where_so}
+use Rattle.plan_schema.specs.Base.{part_count}
 use Rattle.scenario_rules.specs.World.{OwnChanges, Scenario, World, root, is_root, root_with, scenario_at, scenario, with_scenario, parent_of, is_child_of, laid_over, contents_of, contents_in}
 use Rattle.scenario_rules.specs.Steps.{joined, with_changes, all_put, step}
-use Rattle.scenario_rules.specs.Refused.{named, no_scenario, denied, denied_parent, denied_owner, taken, at_root, has_children, too_deep, full_scenarios, no_record, conflict, changed_contents, is_part_row, full_parts, full_records, scenario_refusal}
+use Rattle.scenario_rules.specs.Refused.{named, no_scenario, denied, denied_parent, denied_owner, taken, at_root, has_children, too_deep, full_scenarios, no_record, conflict, changed_contents, full_parts, full_records, change_rules, scenario_refusal}
 use Rattle.scenario_rules.specs.Whole.{AreWithinLimits, is_sound_own, IsWholeScenario, HasParent, IsWhole}
 use Rattle.scenario_rules.specs.Laws.{StepLeavesOthers, DropIsGone, DropLeavesOthers, shown, UpdateShowsParent, CommitJoins, CommitKeepsOthers, StepKeepsWhole}
 use Rattle.scenario_rules.proofs.Maps.{both_parts, both_so}
@@ -56,25 +57,8 @@ none_of [] h = tt
 none_of (None ∷ os) h = (refl, none_of os h)
 none_of (Some r ∷ os) h = cc
 
-abbrev each_refusal : World → Name → Change → List (Option Refusal)
-each_refusal w user change =
-    no_scenario w (named change)
-    ∷ denied w user (named change)
-    ∷ denied_parent w user change
-    ∷ denied_owner w user change
-    ∷ taken w change
-    ∷ at_root change
-    ∷ has_children w change
-    ∷ too_deep w change
-    ∷ full_scenarios w change
-    ∷ no_record w change
-    ∷ conflict w change
-    ∷ full_parts w user change
-    ∷ full_records w user change
-    ∷ []
-
-pub passes : (w : World) (user : Name) (change : Change) → scenario_refusal w user change ≡ None → AllByRecursion (λ o. o ≡ None) (each_refusal w user change)
-passes w user change h = none_of (each_refusal w user change) h
+pub passes : (w : World) (user : Name) (change : Change) → scenario_refusal w user change ≡ None → AllByRecursion (λ o. o ≡ None) (change_rules w user change)
+passes w user change h = none_of (change_rules w user change) h
 
 pub not_so : (b : Bool) (r : Refusal) → where_so b r ≡ None → b ≡ false
 not_so true r h = cc
@@ -144,7 +128,7 @@ within w user change h =
     let each = passes w user change h in
     let contents = changed_contents w user change in
     record {
-      parts = at_most (count_by is_part_row contents) 10_000 (not_so (nat_lt 10_000 (count_by is_part_row contents)) (refusals.Full rooms.Parts) each.1.1.1.1.1.1.1.1.1.1.1.0);
+      parts = at_most (part_count contents) 10_000 (not_so (nat_lt 10_000 (part_count contents)) (refusals.Full rooms.Parts) each.1.1.1.1.1.1.1.1.1.1.1.0);
       records = at_most (length contents) 200_000 (not_so (nat_lt 200_000 (length contents)) (refusals.Full rooms.Records) each.1.1.1.1.1.1.1.1.1.1.1.1.0);
     }
 

@@ -1,5 +1,5 @@
 -- Why a change is refused.
-use Rattle.std.specs.Prelude.{ℕ, ◌+◌, Bool, true, false, not, ◌&&◌, ◌||◌, nat_lt, nat_le, List, [], ◌∷◌, length, map, sum_by, count_by, Option, Some, None, is_some, is_none}
+use Rattle.std.specs.Prelude.{ℕ, ◌+◌, Bool, true, false, not, ◌&&◌, ◌||◌, nat_lt, nat_le, List, [], ◌∷◌, length, map, sum_by, ◌++◌, Option, Some, None, is_some, is_none}
 use Rattle.std.specs.List.{list_any}
 use Rattle.plan_schema.specs.declared.name.Name.{Name}
 use Rattle.plan_schema.specs.declared.key.Key.{Key}
@@ -11,6 +11,8 @@ use Rattle.plan_schema.specs.declared.change.Entry.{Entry}
 use Rattle.plan_schema.specs.declared.refusal.Refusal.{Refusal}
 use Rattle.plan_schema.specs.declared.refusal.Refusal.TheVariants as refusals
 use Rattle.plan_schema.specs.declared.refusal.Room.TheVariants as rooms
+use Rattle.plan_schema.specs.declared.limits.TheConstants.{PART_LIMIT, RECORD_LIMIT, SCENARIO_LIMIT, DEPTH_LIMIT, ENTRY_LIMIT, CARRIED_LIMIT}
+use Rattle.plan_schema.specs.Base.{part_count}
 use Rattle.plan_schema.specs.Contents.{Contents, record_at}
 use Rattle.plan_schema.specs.Refusals.{first_of, where_so, if_any}
 use Rattle.scenario_rules.specs.Same.{same_option, same_record}
@@ -36,9 +38,13 @@ no_scenario w s = where_so (is_none (scenario_at w s)) (refusals.NoScenario s)
 abbrev pub denied : World → Name → Name → Option Refusal
 denied w user s = where_so (not (may_use w user s)) (refusals.Denied s)
 
+-- whether a user may use a scenario, rule by rule
+abbrev pub access_rules : World → Name → Name → List (Option Refusal)
+access_rules w user s = no_scenario w s ∷ denied w user s ∷ []
+
 -- a query of a scenario is refused in these two cases, before all that its own rules say
 abbrev pub access_refusal : World → Name → Name → Option Refusal
-access_refusal w user s = first_of (no_scenario w s ∷ denied w user s ∷ [])
+access_refusal w user s = first_of (access_rules w user s)
 
 -- the user may not use the parent that an UPDATE or a COMMIT is about
 abbrev pub denied_above : World → Name → Name → Option Refusal
@@ -78,12 +84,12 @@ has_children w _ = None
 
 -- a branched scenario would have more than 32 above it
 abbrev pub too_deep : World → Change → Option Refusal
-too_deep w (changes.Branch s child) = where_so (nat_lt 32 (count_above 33 w (Some s))) (refusals.Depth child)
+too_deep w (changes.Branch s child) = where_so (nat_lt DEPTH_LIMIT (count_above (DEPTH_LIMIT + 1) w (Some s))) (refusals.Depth child)
 too_deep w _ = None
 
 -- there are 256 scenarios before a BRANCH, the root included
 abbrev pub full_scenarios : World → Change → Option Refusal
-full_scenarios w (changes.Branch s child) = where_so (nat_le 256 (length w)) (refusals.Full rooms.Scenarios)
+full_scenarios w (changes.Branch s child) = where_so (nat_le SCENARIO_LIMIT (length w)) (refusals.Full rooms.Scenarios)
 full_scenarios w _ = None
 
 -- a DEL finds no record under its key
@@ -111,17 +117,13 @@ changed_scenario w change = named change
 abbrev pub changed_contents : World → Name → Change → Contents
 changed_contents w user change = contents_in (step w user change) (changed_scenario w change)
 
-abbrev pub is_part_row : (Key × Record) → Bool
-is_part_row (keys.Part name, value) = true
-is_part_row _ = false
-
--- it would have more than 10,000 parts
+-- it would have more parts than a scenario may
 abbrev pub full_parts : World → Name → Change → Option Refusal
-full_parts w user change = where_so (nat_lt 10_000 (count_by is_part_row (changed_contents w user change))) (refusals.Full rooms.Parts)
+full_parts w user change = where_so (nat_lt PART_LIMIT (part_count (changed_contents w user change))) (refusals.Full rooms.Parts)
 
--- it would have more than 200,000 records
+-- it would have more records than a scenario may
 abbrev pub full_records : World → Name → Change → Option Refusal
-full_records w user change = where_so (nat_lt 200_000 (length (changed_contents w user change))) (refusals.Full rooms.Records)
+full_records w user change = where_so (nat_lt RECORD_LIMIT (length (changed_contents w user change))) (refusals.Full rooms.Records)
 
 -- how many records a change carries
 abbrev pub record_count : Change → ℕ
@@ -133,16 +135,19 @@ record_count _ = 0
 abbrev pub record_counts : List Entry → ℕ
 record_counts history = sum_by (λ entry. record_count entry.change) history
 
--- the journal has 1,000,000 entries, or its records with those of the change would be more than 4,000,000
+-- the journal has as many entries as it may, or its records with those of the change would be more than it may carry
 abbrev pub full_journal : List Entry → Change → Option Refusal
-full_journal history change = where_so (nat_le 1_000_000 (length history) || nat_lt 4_000_000 (record_counts history + record_count change)) (refusals.Full rooms.Journal)
+full_journal history change = 
+    where_so (nat_le ENTRY_LIMIT (length history) || nat_lt CARRIED_LIMIT (record_counts history + record_count change)) (refusals.Full rooms.Journal)
 
--- the first refusal of a change that the scenarios give
-abbrev pub scenario_refusal : World → Name → Change → Option Refusal
-scenario_refusal w user change =
-    first_of (no_scenario w (named change)
-    ∷ denied w user (named change)
-    ∷ denied_parent w user change
+-- why a change may be refused, rule by rule, in the order in which the rules are looked at: whether the user may use the named
+-- scenario, then the rules of the tree and of its records, and last the room for what the change leaves
+abbrev pub room_rules : World → Name → Change → List (Option Refusal)
+room_rules w user change = full_parts w user change ∷ full_records w user change ∷ []
+
+abbrev pub later_rules : World → Name → Change → List (Option Refusal)
+later_rules w user change =
+    denied_parent w user change
     ∷ denied_owner w user change
     ∷ taken w change
     ∷ at_root change
@@ -151,9 +156,17 @@ scenario_refusal w user change =
     ∷ full_scenarios w change
     ∷ no_record w change
     ∷ conflict w change
-    ∷ full_parts w user change
-    ∷ full_records w user change
-    ∷ [])
+    ∷ room_rules w user change
+
+abbrev pub change_rules : World → Name → Change → List (Option Refusal)
+change_rules w user change = access_rules w user (named change) ++ later_rules w user change
+
+-- the first refusal of a change that the scenarios give, and the first of the later ones
+abbrev pub scenario_refusal : World → Name → Change → Option Refusal
+scenario_refusal w user change = first_of (change_rules w user change)
+
+abbrev pub later_refusal : World → Name → Change → Option Refusal
+later_refusal w user change = first_of (later_rules w user change)
 
 -- the first refusal of a change after a history, or none: those that the scenarios give, and then want of room in the journal
 abbrev pub refused : Contents → List Entry → Name → Change → Option Refusal

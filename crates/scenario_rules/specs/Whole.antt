@@ -1,5 +1,5 @@
 -- What holds of the scenarios after each legal history.
-use Rattle.std.specs.Prelude.{◌≡◌, ◌≤◌, Bool, true, false, not, ◌&&◌, length, count_by, Option, Some, None, IsSome}
+use Rattle.std.specs.Prelude.{◌≡◌, ◌≤◌, Bool, true, false, not, ◌&&◌, length, Option, Some, None, IsSome}
 use Rattle.std.specs.List.{list_all}
 use Rattle.std.specs.FinMap.{is_sorted}
 use Rattle.plan_schema.specs.declared.name.Name.{Name}
@@ -10,7 +10,8 @@ use Rattle.plan_schema.specs.Key.{name_cmp, name_eq, key_cmp, key_eq}
 use Rattle.plan_schema.specs.Contents.{Contents, record_at, is_ordered}
 use Rattle.plan_schema.specs.Sound.{is_sound_key, is_sound_row, are_sound_rows}
 use Rattle.scenario_rules.specs.World.{OwnChanges, Scenario, World, root, is_root, root_with, scenario_at, contents_of}
-use Rattle.scenario_rules.specs.Refused.{is_part_row}
+use Rattle.plan_schema.specs.declared.limits.TheConstants.{PART_LIMIT, RECORD_LIMIT, SCENARIO_LIMIT}
+use Rattle.plan_schema.specs.Base.{part_count}
 
 -- contents that are in key order, with sound rows alone and a horizon among them
 pub record AreWholeContents (contents : Contents) : Type 0 where
@@ -18,10 +19,10 @@ pub record AreWholeContents (contents : Contents) : Type 0 where
   pub sound : are_sound_rows contents ≡ true
   pub horizon : IsSome (record_at contents keys.Plan)
 
--- contents of at most 10,000 parts and 200,000 records
+-- contents with no more parts and records than a scenario may have
 pub record AreWithinLimits (contents : Contents) : Type 0 where
-  pub parts : count_by is_part_row contents ≤ 10_000
-  pub records : length contents ≤ 200_000
+  pub parts : part_count contents ≤ PART_LIMIT
+  pub records : length contents ≤ RECORD_LIMIT
 
 -- an own change puts a sound row, or takes away a key that a row can have and that isn't the horizon's
 abbrev pub is_sound_own : (Key × Option Record) → Bool
@@ -49,7 +50,7 @@ pub record HasParent (w : World) (s : Name) (x : Scenario) : Type 0 where
 -- a world of at most 256 scenarios in name order, with its root, in which each scenario is whole, and each but the root has a parent
 pub record IsWhole (w : World) : Type 0 where
   pub ordered : is_sorted name_cmp w ≡ true
-  pub few : length w ≤ 256
+  pub few : length w ≤ SCENARIO_LIMIT
   pub rooted : (contents : Contents) × (scenario_at w root ≡ Some (root_with contents))
   pub each : (s : Name) (x : Scenario) → scenario_at w s ≡ Some x → IsWholeScenario x
   pub parents : (s : Name) (x : Scenario) → scenario_at w s ≡ Some x → is_root s ≡ false → HasParent w s x

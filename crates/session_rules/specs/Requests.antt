@@ -13,6 +13,7 @@ use Rattle.plan_schema.specs.declared.fault.FieldFault.{FieldFault}
 use Rattle.row_text.specs.Open.{is_closed_word, open_row_of}
 use Rattle.byte_lines.specs.Lines.{lines_of}
 use Rattle.command_words.specs.Words.{words_of, is_blank}
+use Rattle.command_words.specs.Changes.{change_of}
 use Rattle.command_words.specs.Commands.{command_of}
 use Rattle.command_words.specs.declared.command.Command.{Command}
 use Rattle.command_words.specs.declared.command.Command.TheVariants as commands
@@ -84,15 +85,12 @@ pub record Request : Type 0 where
   pub wish : Wish
 
 -- what a command wants, where it is no LOAD
+abbrev pub wanted : Command → Option Change → Wish
+wanted command (Some change) = Makes change
+wanted command None = Asks command
+
 abbrev pub wish_of : Command → Wish
-wish_of (commands.Put scenario key value) = Makes (changes.Put scenario key value)
-wish_of (commands.Del scenario key) = Makes (changes.Del scenario key)
-wish_of (commands.Branch parent child) = Makes (changes.Branch parent child)
-wish_of (commands.Share scenario) = Makes (changes.Share scenario)
-wish_of (commands.Update scenario) = Makes (changes.Update scenario)
-wish_of (commands.Commit scenario) = Makes (changes.Commit scenario)
-wish_of (commands.Drop scenario) = Makes (changes.Drop scenario)
-wish_of command = Asks command
+wish_of command = wanted command (change_of command)
 
 abbrev pub read_wish : Result Command Bad → Wish
 read_wish (Ok command) = wish_of command

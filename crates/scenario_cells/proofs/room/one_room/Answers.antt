@@ -1,7 +1,7 @@
 use Rattle.std.proofs.Common.{◌∙◌, sym, ap, subst, ◌∷◌, [], length, ◌+◌}
+use Rattle.plan_schema.specs.Base.{part_count}
 use Rattle.std.specs.Prelude.{is_some, count_by}
 use Rattle.scenario_rules.specs.World.{laid_over}
-use Rattle.scenario_rules.specs.Refused.{is_part_row}
 use Rattle.scenario_cells.proofs.HeldLaws.{held_contents, contents_ordered, record_is, copied_some}
 use Rattle.scenario_cells.proofs.RoomLaws.{tally_next, tally_first}
 use Rattle.scenario_cells.specs.declared.room.Tally.{Tally}
@@ -18,4 +18,4 @@ returns c = λ value has.
     let first = subst (λ (t : Tally). IsTallied a [] t) (sym c.no_tally.ensures) (tally_first a) in
     let next = tally_next a [] c.no_tally.result c.tallied-tally.result key value c.is_some-had.result c.args.has (contents_ordered cells h) first had has c.tallied-tally.ensures in
     let new = laid_over a ((key, value) ∷ []) in
-    c.full.ensures (count_by is_part_row new) (length new) (next.parts ∙ ap (λ n. n + c.tallied-tally.result.parts_after) (sym c.requires.held.parts)) (next.records ∙ ap (λ n. n + c.tallied-tally.result.rows_after) (sym c.requires.held.records))
+    c.full.ensures (part_count new) (length new) (next.parts ∙ ap (λ n. n + c.tallied-tally.result.parts_after) (sym c.requires.held.parts)) (next.records ∙ ap (λ n. n + c.tallied-tally.result.rows_after) (sym c.requires.held.records))

@@ -2,7 +2,7 @@ use Rattle.std.proofs.Common.{◌∙◌, sym, ap, refl}
 use Rattle.std.specs.Prelude.{Some}
 use Rattle.record_versions.specs.Versions.{cell_at}
 use Rattle.scenario_merge.specs.Grown.{world_by}
-use Rattle.scenario_merge.specs.Lines.{later_refusal}
+use Rattle.scenario_rules.specs.Refused.{later_refusal}
 use Rattle.scenario_merge.proofs.refusals.later_refusal.Goals as goal
 
 pub returns-in-Put : goal.returns-in-Put

@@ -12,23 +12,23 @@ use Rattle.scenario_merge.proofs.forest.Forest.begin.Goals as goal
 pub invariant_of-result : goal.invariant_of-result
 invariant_of-result c =
     let g = c.in_ok-grouped.grouped in
-    let is : c.put_in.new.map.entries ≡ (root, root_held g.ids c.count_parts.result c.len.result) ∷ [] =
+    let is : c.put_in.new.map.entries ≡ (root, root_held g.ids c.parts.result c.len.result) ∷ [] =
     c.in_ok-put_in.ensures.ok ∙ (λ i. insert_entry name_cmp (c.new-scenarios.ensures.empty i) (c.in-Some.ensures i) (c.in_ok-held.ensures i)) in
     subst (λ (es : List (Name × Held)). IsForest es g.store) (sym is)
-    (begun c.args.contents.now g.store g.ids c.count_parts.result c.len.result c.requires.whole c.requires.limits c.in_ok-grouped.ensures c.count_parts.ensures c.len.ensures.count)
+    (begun c.args.contents.now g.store g.ids c.parts.result c.len.result c.requires.whole c.requires.limits c.in_ok-grouped.ensures c.parts.ensures c.len.ensures.count)
 
 pub returns-clause-world : goal.returns-clause-world
 returns-clause-world c =
     let g = c.in_ok-grouped.grouped in
-    let is : c.put_in.new.map.entries ≡ (root, root_held g.ids c.count_parts.result c.len.result) ∷ [] =
+    let is : c.put_in.new.map.entries ≡ (root, root_held g.ids c.parts.result c.len.result) ∷ [] =
     c.in_ok-put_in.ensures.ok ∙ (λ i. insert_entry name_cmp (c.new-scenarios.ensures.empty i) (c.in-Some.ensures i) (c.in_ok-held.ensures i)) in
     subst (λ (es : List (Name × Held)). (grown es g.store).world ≡ begin_with c.args.contents.now) (sym is)
-    (begun_world c.args.contents.now g.store g.ids c.count_parts.result c.len.result c.requires.whole c.requires.limits c.in_ok-grouped.ensures c.count_parts.ensures c.len.ensures.count)
+    (begun_world c.args.contents.now g.store g.ids c.parts.result c.len.result c.requires.whole c.requires.limits c.in_ok-grouped.ensures c.parts.ensures c.len.ensures.count)
 
 pub returns-clause-ids : goal.returns-clause-ids
 returns-clause-ids c =
     let g = c.in_ok-grouped.grouped in
-    let is : c.put_in.new.map.entries ≡ (root, root_held g.ids c.count_parts.result c.len.result) ∷ [] =
+    let is : c.put_in.new.map.entries ≡ (root, root_held g.ids c.parts.result c.len.result) ∷ [] =
     c.in_ok-put_in.ensures.ok ∙ (λ i. insert_entry name_cmp (c.new-scenarios.ensures.empty i) (c.in-Some.ensures i) (c.in_ok-held.ensures i)) in
     subst (λ (es : List (Name × Held)). ids_in (grown es g.store) ≡ begin_ids c.args.contents.now) (sym is)
-    (begun_ids c.args.contents.now g.store g.ids c.count_parts.result c.len.result c.requires.whole c.requires.limits c.in_ok-grouped.ensures c.count_parts.ensures c.len.ensures.count)
+    (begun_ids c.args.contents.now g.store g.ids c.parts.result c.len.result c.requires.whole c.requires.limits c.in_ok-grouped.ensures c.parts.ensures c.len.ensures.count)

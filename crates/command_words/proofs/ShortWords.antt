@@ -1,5 +1,5 @@
--- The words of sound changes and rows are short, and each of their bytes comes after the space.
-use Rattle.std.proofs.Common.{◌≡◌, ℕ, suc, ◌+◌, ◌^◌, ◌<◌, ◌≤◌, Bool, true, false, ◌&&◌, nat_le, nat_lt, List, [], ◌∷◌, ◌++◌, length, Option, Some, None, refl, arith, length-append}
+-- The words of sound changes, rows and replies are short, and each of their bytes comes after the space.
+use Rattle.std.proofs.Common.{◌≡◌, ℕ, suc, ◌+◌, ◌*◌, ◌^◌, ◌<◌, ◌≤◌, Bool, true, false, ◌&&◌, nat_le, nat_lt, List, [], ◌∷◌, ◌++◌, length, Option, Some, None, refl, arith, length-append}
 use Rattle.std.specs.Prelude.{codes, decimal, slice_index_or}
 use Rattle.std.specs.List.{list_all}
 use Rattle.std.proofs.lemmas.Bool.{and_parts}
@@ -15,9 +15,9 @@ use Rattle.plan_schema.specs.declared.key.Record.TheVariants as records
 use Rattle.plan_schema.specs.Name.{is_name, starts_name, is_name_byte}
 use Rattle.plan_schema.specs.Day.{is_day, day_text}
 use Rattle.plan_schema.specs.Sound.{is_sound_key, is_sound_row, is_sound_lot, is_sound_span, is_quantity, calendar_is_name, key_has_names, are_apart, record_has_names, is_within}
-use Rattle.row_text.specs.Spelling.{key_fields, row_fields, record_fields, span_fields, lot_text, week_text, calendar_text, mark}
+use Rattle.row_text.specs.Spelling.{spaced, words_text, key_fields, row_fields, record_fields, span_fields, lot_text, week_text, calendar_text, mark}
 use Rattle.row_text.proofs.Fields.{and_true, le_true}
-use Rattle.command_words.proofs.Forms.{is_seen, is_seen_word, name_seen, number_seen, day_seen, all-append}
+use Rattle.command_words.proofs.Seen.{is_seen, is_seen_word, name_seen, number_seen, day_seen, all-append}
 
 abbrev pub is_short_word : List ℕ → Bool
 is_short_word word = nat_le (length word) 40 && is_seen_word word
@@ -27,10 +27,10 @@ pub record AreShort (words : List (List ℕ)) (most : ℕ) : Type 0 where
   pub few : length words ≤ most
   pub short : list_all is_short_word words ≡ true
 
-short : (word : List ℕ) → length word ≤ 40 → is_seen_word word ≡ true → is_short_word word ≡ true
+pub short : (word : List ℕ) → length word ≤ 40 → is_seen_word word ≡ true → is_short_word word ≡ true
 short word few seen = and_true (le_true (length word) 40 few) seen
 
-no_words : AreShort [] 0
+pub no_words : AreShort [] 0
 no_words = record { few = omega arith; short = refl }
 
 pub with_word : (word : List ℕ) (words : List (List ℕ)) (most : ℕ) → is_short_word word ≡ true → AreShort words most → AreShort (word ∷ words) (suc most)
@@ -59,10 +59,10 @@ number_short n big =
     let few : length (decimal n) ≤ 10 = length-decimal-le 10 n (omega arith) (omega arith) (omega arith) in
     short (decimal n) (omega arith) (number_seen n (omega arith))
 
-up_to : (n most : ℕ) → most < 2 ^ 32 → nat_le n most ≡ true → n < 2 ^ 32
+pub up_to : (n most : ℕ) → most < 2 ^ 32 → nat_le n most ≡ true → n < 2 ^ 32
 up_to n most big h = let below : n ≤ most = grind (arith, nat_tests) in omega arith
 
-day_short : (day : ℕ) → is_short_word (day_text day) ≡ true
+pub day_short : (day : ℕ) → is_short_word (day_text day) ≡ true
 unfolding day_text
 day_short day = short (day_text day) (let ten : length (day_text day) ≡ 10 = refl in omega arith) (day_seen day)
 
@@ -181,3 +181,34 @@ row_short key value h =
     let q = and_parts (is_sound_key key) (record_has_names value) p.0 in
     let k = and_parts (key_has_names key) (are_apart key) q.0 in
     both_short (key_fields key) (record_fields value) 3 4 (key_short key k.0) (record_short key value q.1 p.1)
+
+-- short words are seen
+pub all_seen : (words : List (List ℕ)) → list_all is_short_word words ≡ true → list_all is_seen_word words ≡ true
+all_seen [] h = refl
+all_seen (word ∷ words) h =
+    let p = and_parts (is_short_word word) (list_all is_short_word words) h in
+    let q = and_parts (nat_le (length word) 40) (is_seen_word word) p.0 in
+    and_true q.1 (all_seen words p.1)
+
+pub key_seen : (key : Key) → key_has_names key ≡ true → list_all is_seen_word (key_fields key) ≡ true
+key_seen key h = all_seen (key_fields key) (key_short key h).short
+
+pub row_seen : (key : Key) (value : Record) → is_sound_row key value ≡ true → list_all is_seen_word (row_fields key value) ≡ true
+row_seen key value h = all_seen (row_fields key value) (row_short key value h).short
+
+-- the text of few short words is short
+pub text_short : (words : List (List ℕ)) (most : ℕ) → AreShort words most → length (words_text words) ≤ 41 * most
+text_short [] most h = omega arith
+text_short (word ∷ words) most h = let few = h.few in let rest = spaced_short words (and_parts (is_short_word word) (list_all is_short_word words) h.short).1 in
+    let one = word_short word (and_parts (is_short_word word) (list_all is_short_word words) h.short).0 in omega (arith, length-append word (spaced words))
+  where
+    word_short : (word : List ℕ) → is_short_word word ≡ true → length word ≤ 40
+    word_short word e = let q = (and_parts (nat_le (length word) 40) (is_seen_word word) e).0 in grind (arith, nat_tests)
+
+    spaced_short : (words : List (List ℕ)) → list_all is_short_word words ≡ true → length (spaced words) ≤ 41 * length words
+    spaced_short [] e = omega arith
+    spaced_short (word ∷ words) e =
+        let p = and_parts (is_short_word word) (list_all is_short_word words) e in
+        let one = word_short word p.0 in
+        let rest = spaced_short words p.1 in
+        omega (arith, length-append (32 ∷ word) (spaced words))

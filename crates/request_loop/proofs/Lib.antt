@@ -1,3 +1,4 @@
+pub mod FirstWords
 pub mod Held
 pub mod Chained
 pub mod Legal

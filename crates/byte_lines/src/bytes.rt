@@ -76,22 +76,3 @@ impl Bytes {
         self.items.as_slice()
     }
 }
-
-#[cfg(test)]
-mod tests {
-    use super::*;
-    use std::test::Fail;
-
-    #[test]
-    fn bytes_are_added(rt: HostRuntime) -> Result<(), Fail> {
-        let mut bytes = Bytes::new(rt.alloc());
-        assert!(rt; bytes.is_empty());
-        bytes.push(b'a')?;
-        bytes.extend(b"bc")?;
-        assert_eq!(rt; bytes.as_slice(), b"abc".as_slice());
-        assert_eq!(rt; bytes.len(), 3);
-        assert_eq!(rt; bytes.get(1), Some(&b'b'));
-        assert_eq!(rt; bytes.get(3), None);
-        Ok(())
-    }
-}

@@ -92,12 +92,6 @@ impl<'a, R: Files + Print> FileShelf<'a, R> {
         }
     }
 
-    // How many calls to open or make a file failed.
-    #[cfg(test)]
-    pub(crate) fn open_faults(&self, name: &str) -> u64 {
-        self.rows.find(name).map_or(0, |slot| slot.open_faults)
-    }
-
     // Opens a file to read it. The console can't be read.
     fn file_in(&self, name: &str) -> io::Result<R::File> {
         if name == "-" {

@@ -26,7 +26,7 @@ use Rattle.scenario_rules.proofs.Wholeness.{one_name}
 use Rattle.scenario_rules.proofs.HistoryLaws.{legal_is_whole}
 use Rattle.plan_book.specs.History.{is_of_one_record}
 use Rattle.plan_book.specs.Kept.{IsKept}
-use Rattle.plan_book.proofs.Limits.{base_parts, part_counts, whole_is_base, base_is_whole, base_is_within, parts_taken, length_taken}
+use Rattle.plan_book.proofs.Limits.{base_parts, whole_is_base, base_is_whole, base_is_within, parts_taken, length_taken}
 use Rattle.plan_book.proofs.Histories.{legal_then, world_then}
 
 -- the scenario that a change names isn't there ---------------------------------------------------------------------------------------
@@ -77,7 +77,6 @@ put_refused base history c user s key value shown h =
     let at : scenario_refusal (begin_with c) user (changes.Put s key value) ≡ scenario_refusal (begin_with c) user (changes.Put root key value) = ap (λ n. scenario_refusal (begin_with c) user (changes.Put n key value)) (one_name s root h) in
     (λ i. first_of (scenario_refusal (shown i) user (changes.Put s key value) ∷ last ∷ []))
     ∙ ap (λ o. first_of (o ∷ last ∷ [])) (at ∙ root_put c user key value)
-    ∙ ap (λ n. first_of (first_of (where_so (nat_lt PART_LIMIT n) (refusals.Full rooms.Parts) ∷ records ∷ []) ∷ last ∷ [])) (part_counts (with_record c key value))
     ∙ flat (where_so (nat_lt PART_LIMIT (part_count (with_record c key value))) (refusals.Full rooms.Parts) ∷ records ∷ []) last
 
 del_refused : (base : Contents) (history : List Entry) (c : Contents) (user s : Name) (key : Key) → world_after base history ≡ begin_with c → is_root s ≡ true
@@ -92,7 +91,6 @@ del_refused base history c user s key shown h =
     let at : scenario_refusal (begin_with c) user (changes.Del s key) ≡ scenario_refusal (begin_with c) user (changes.Del root key) = ap (λ n. scenario_refusal (begin_with c) user (changes.Del n key)) (one_name s root h) in
     (λ i. first_of (scenario_refusal (shown i) user (changes.Del s key) ∷ last ∷ []))
     ∙ ap (λ o. first_of (o ∷ last ∷ [])) (at ∙ root_del c user key)
-    ∙ ap (λ n. first_of (first_of (first ∷ where_so (nat_lt PART_LIMIT n) (refusals.Full rooms.Parts) ∷ records ∷ []) ∷ last ∷ [])) (part_counts (without_key c key))
     ∙ flat (first ∷ where_so (nat_lt PART_LIMIT (part_count (without_key c key))) (refusals.Full rooms.Parts) ∷ records ∷ []) last
 
 has_room : (most n : ℕ) (r : Refusal) → n ≤ most → where_so (nat_lt most n) r ≡ None

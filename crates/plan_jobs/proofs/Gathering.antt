@@ -29,7 +29,7 @@ use Rattle.plan_jobs.specs.Collects.{is_reached, is_calendar, is_calendar_reache
 never : {A : Type 0} → false ≡ true → A
 never h = cc
 
-same_bools : (a b : Bool) → (a ≡ true → b ≡ true) → (b ≡ true → a ≡ true) → a ≡ b
+pub same_bools : (a b : Bool) → (a ≡ true → b ≡ true) → (b ≡ true → a ≡ true) → a ≡ b
 same_bools true b h k = sym (h refl)
 same_bools false true h k = k refl
 same_bools false false h k = refl

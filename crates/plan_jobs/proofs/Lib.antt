@@ -6,3 +6,5 @@ pub mod Found
 pub mod Visited
 pub mod Gathering
 pub mod Collecting
+pub mod Alike
+pub mod CollectedLaws

@@ -4,8 +4,10 @@
 mod cells;
 mod gather;
 mod job;
+mod laws;
 mod names;
 
 pub use cells::CellList;
 pub use gather::collect;
 pub use job::{Job, Wanted};
+pub use laws::collected_is_enough;

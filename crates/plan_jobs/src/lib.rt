@@ -6,6 +6,8 @@ mod gather;
 mod job;
 mod laws;
 mod names;
+#[cfg(test)]
+mod tests;
 
 pub use cells::CellList;
 pub use gather::collect;

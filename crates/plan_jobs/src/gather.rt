@@ -1,19 +1,17 @@
 //! Collecting the cells that a question takes along.
-ghost use Rattle.std.specs.Prelude.{◌≡◌, ◌++◌, ◌||◌, true, Some, IfOk, OnOk, filter, map, is_some};
+ghost use Rattle.std.specs.Prelude.{◌≡◌, ◌++◌, true, IfOk, OnOk, filter};
 ghost use Rattle.std.specs.Option.{option_map};
 ghost use Rattle.std.specs.Arc.{arc_value};
 ghost use Rattle.std.specs.List.{filter_map};
 ghost use Rattle.plan_schema.specs.declared.change.CellName.{CellName};
-ghost use Rattle.plan_schema.specs.declared.change.CellName.TheVariants as names;
 ghost use Rattle.planning_rules.specs.Bills.{parents, parent_in};
-ghost use Rattle.record_versions.specs.Versions.{id_at, cell_at, are_ordered_ids};
-ghost use Rattle.record_versions.specs.Shown.{cells_of};
+ghost use Rattle.record_versions.specs.Versions.{id_at, are_ordered_ids};
 ghost use Rattle.walk_rules.specs.Steps.{calendar_of};
 ghost use Rattle.plan_schema.specs.Contents.{record_at};
 ghost use Rattle.plan_schema.specs.declared.key.Key.TheVariants as keys;
 ghost use Rattle.plan_jobs.specs.Jobs.{IsJob};
 ghost use Rattle.plan_jobs.specs.Names.{has_name, are_ordered};
-ghost use Rattle.plan_jobs.specs.Collects.{AreWholeCells, CollectedFrom, cell_by, cells_by, records_by, is_calendar, is_needed, IsVisited};
+ghost use Rattle.plan_jobs.specs.Collects.{AreWholeCells, CollectedFrom, cell_by, cells_by, records_by, is_needed, IsVisited};
 
 use crate::cells::CellList;
 use crate::job::{Job, Wanted};
@@ -115,7 +113,8 @@ fn named_cells(
     requires whole { AreWholeCells store.now ids.now }
     requires ordered { are_ordered_ids ids.now ≡ true }
     requires names { are_ordered names ≡ true }
-    ensures { IfOk result (λ cells. cells ≡ filter (λ cell. has_name names cell.0.cell) (cells_by store.now ids.now)) }
+    ensures { IfOk result (λ cells. cells
+        ≡ filter (λ cell. has_name names cell.0.cell) (cells_by store.now ids.now)) }
 {
     let mut cells = Vec::new(alloc);
     while let Some(name) = names.take_first() {
@@ -135,7 +134,8 @@ fn needed_names(
 ) -> Result<CellNames, AllocError>
     requires whole { AreWholeCells store.now ids.now }
     requires ordered { are_ordered_ids ids.now ≡ true }
-    ensures names { IfOk result (λ names. (cell : CellName) → has_name names cell ≡ is_needed (records_by store.now ids.now) part cell) }
+    ensures names { IfOk result (λ names. (cell : CellName)
+        → has_name names cell ≡ is_needed (records_by store.now ids.now) part cell) }
     ensures ordered { IfOk result (λ names. are_ordered names ≡ true) }
 {
     let mut names = CellNames::new(alloc);
@@ -160,9 +160,11 @@ fn visit(
 ) -> Result<(), AllocError>
     requires whole { AreWholeCells store.now ids.now }
     requires ordered { are_ordered_ids ids.now ≡ true }
-    ensures names { OnOk result (IsVisited (records_by store.now ids.now) part names.old names.new) }
+    ensures names { OnOk result
+        (IsVisited (records_by store.now ids.now) part names.old names.new) }
     ensures ordered { OnOk result (are_ordered names.new ≡ true) }
-    ensures todo { OnOk result (todo.new.items ≡ todo.old.items ++ parents (records_by store.now ids.now) part) }
+    ensures todo { OnOk result
+        (todo.new.items ≡ todo.old.items ++ parents (records_by store.now ids.now) part) }
 {
     names.put(CellName::Part(part))?;
     let Some((_id, cell)) = find(ids, store, CellName::Part(part)) else {

@@ -1,0 +1,10 @@
+pub mod Sets
+pub mod Searched
+pub mod Rows
+pub mod Kept
+pub mod Found
+pub mod Visited
+pub mod Gathering
+pub mod Collecting
+pub mod Alike
+pub mod CollectedLaws

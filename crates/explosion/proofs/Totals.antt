@@ -22,7 +22,7 @@ use Rattle.planning_rules.specs.Plan.{Order, counted, total}
 use Rattle.walk_rules.specs.Steps.{asked_from}
 use Rattle.explosion.specs.Sums.{demand_row, bill_row, receipt_row, demands_in, bills_in, receipts_in, asked_of, gross_by, sched_by, order_adds, bill_adds, row_adds, bill_count, list_at, AreReleases, receipt_adds}
 
-append_none : {A : Type 0} (xs : List A) → xs ++ [] ≡ xs
+pub append_none : {A : Type 0} (xs : List A) → xs ++ [] ≡ xs
 append_none [] = refl
 append_none (x ∷ xs) = ap (λ ys. x ∷ ys) (append_none xs)
 
@@ -85,7 +85,7 @@ row_more start t lists rows row l =
         (asked_more start t (bills_in rows) one lists low)
     by_row _ l = (λ i. asked_of start t (append_none (demands_in rows) i) (append_none (bills_in rows) i) lists) ∙ plus_none (asked_of start t (demands_in rows) (bills_in rows) lists)
 
-length_more : {A : Type 0} (xs : List A) (x : A) → length (xs ++ x ∷ []) ≡ length xs + 1
+pub length_more : {A : Type 0} (xs : List A) (x : A) → length (xs ++ x ∷ []) ≡ length xs + 1
 length_more [] x = refl
 length_more (y ∷ ys) x = let again = length_more ys x in omega arith
 
@@ -139,7 +139,7 @@ all_summed start days lists rows next sums s =
 -- a row among others ----------------------------------------------------------------------------------------------------------
 
 -- no more bills so far than in all
-bills_fit : (done rest : Rows) (row : Key × Record) → length (bills_in done) + bill_count row ≤ length (bills_in (done ++ row ∷ rest))
+pub bills_fit : (done rest : Rows) (row : Key × Record) → length (bills_in done) + bill_count row ≤ length (bills_in (done ++ row ∷ rest))
 bills_fit [] rest row = first row
   where
     first : (r : Key × Record) → 0 + bill_count r ≤ length (bills_in (r ∷ rest))

@@ -19,7 +19,7 @@ pub fn add_order(sums: &mut [u128], start: u32, date: u32, qty: u64)
 }
 
 /// Whether a bill is effective on a date.
-fn is_effective_on(span: &Option<Span>, date: u32) -> bool
+pub fn is_effective_on(span: &Option<Span>, date: u32) -> bool
     ensures { result ≡ is_effective span.now date }
 {
     match span {
@@ -47,7 +47,7 @@ pub fn add_bill(sums: &mut [u128], start: u32, span: &Option<Span>, per: u64, re
 }
 
 /// The release list at a place.
-fn release_at(releases: &[Release], place: usize) -> &[u64]
+pub fn release_at(releases: &[Release], place: usize) -> &[u64]
     requires { place < length releases.now }
     ensures { result.now ≡ list_at releases.now place }
 {

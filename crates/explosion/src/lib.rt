@@ -7,5 +7,6 @@ mod sums;
 #[cfg(test)]
 mod tests;
 
+pub use adding::{is_effective_on, release_at};
 pub use laws::sums_are_local;
 pub use sums::{gross, sched};

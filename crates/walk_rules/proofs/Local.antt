@@ -163,7 +163,7 @@ step_is_local c d n lists a = step_same c d n a lists
 
 -- a step is one from the releases of the parents --------------------------------------------------------------------------------
 
-asked_lists : (plans : Name → Option Known) (start t : ℕ) (bills : List ParentBill) → map (asked_by plans start t) bills ≡ asked_from start t bills (map (λ p. released (plans p)) (map (λ bill. bill.parent) bills))
+pub asked_lists : (plans : Name → Option Known) (start t : ℕ) (bills : List ParentBill) → map (asked_by plans start t) bills ≡ asked_from start t bills (map (λ p. released (plans p)) (map (λ bill. bill.parent) bills))
 asked_lists plans start t [] = refl
 asked_lists plans start t (bill ∷ bills) = ap (λ more. asked_by plans start t bill ∷ more) (asked_lists plans start t bills)
 

@@ -86,21 +86,21 @@ one_cell (names.Cal x) (names.Cal y) h = ap names.Cal (exact_bytes x y (equal_te
 one_cell (names.Part x) (names.Part y) h = ap names.Part (exact_bytes x y (equal_tells (name_cmp x y) h))
 one_cell _ _ h = cc
 
-own_all : (rows : Contents) (name : CellName) → are_own_rows name rows ≡ true → cell_rows rows name ≡ rows
+pub own_all : (rows : Contents) (name : CellName) → are_own_rows name rows ≡ true → cell_rows rows name ≡ rows
 own_all [] name h = refl
 own_all (row ∷ rows) name h =
     let two = and_parts (cell_eq (cell_of row.0) name) (are_own_rows name rows) h in
     λ i. cond (two.0 i) (row ∷ own_all rows name two.1 i) (own_all rows name two.1 i)
 
 -- a cell's rows are none of another's
-own_none : (rows : Contents) (name other : CellName) → are_own_rows name rows ≡ true → cell_eq name other ≡ false → cell_rows rows other ≡ []
+pub own_none : (rows : Contents) (name other : CellName) → are_own_rows name rows ≡ true → cell_eq name other ≡ false → cell_rows rows other ≡ []
 own_none [] name other h e = refl
 own_none (row ∷ rows) name other h e =
     let two = and_parts (cell_eq (cell_of row.0) name) (are_own_rows name rows) h in
     let not_here : cell_eq (cell_of row.0) other ≡ false = ap (λ x. cell_eq x other) (one_cell (cell_of row.0) name two.0) ∙ e in
     λ i. cond (not_here i) (row ∷ cell_rows rows other) (own_none rows name other two.1 e i)
 
-rows_append : (xs ys : Contents) (name : CellName) → cell_rows (xs ++ ys) name ≡ cell_rows xs name ++ cell_rows ys name
+pub rows_append : (xs ys : Contents) (name : CellName) → cell_rows (xs ++ ys) name ≡ cell_rows xs name ++ cell_rows ys name
 rows_append xs ys name = filter-append (λ row. cell_eq (cell_of row.0) name) xs ys
 
 append_none : {A : Type 0} (xs : List A) → xs ++ [] ≡ xs
@@ -108,7 +108,7 @@ append_none [] = refl
 append_none (x ∷ xs) = ap (λ ys. x ∷ ys) (append_none xs)
 
 -- where no cell has a name, no record belongs to it
-none_of : (cells : Cells) (name : CellName) → are_own_cells cells ≡ true → AllByRecursion (λ other. cell_eq other.0.cell name ≡ false) cells → cell_rows (records cells) name ≡ []
+pub none_of : (cells : Cells) (name : CellName) → are_own_cells cells ≡ true → AllByRecursion (λ other. cell_eq other.0.cell name ≡ false) cells → cell_rows (records cells) name ≡ []
 none_of [] name own apart = refl
 none_of (cell ∷ cells) name own apart =
     let two = and_parts (are_own_rows cell.0.cell cell.1) (are_own_cells cells) own in

@@ -1,0 +1,2 @@
+pub mod Pegs
+pub mod Laws

@@ -1,0 +1,12 @@
+//! Answers to the questions of sessions, from the cells that a question takes along and the plans of its parts.
+#![tactic(auto)]
+
+mod ask;
+mod lines;
+mod records;
+mod want;
+
+pub use ask::{Ask, ask_of, uses_plan};
+pub use lines::{peg_lines, plan_lines, promise_lines};
+pub use records::shown_rows;
+pub use want::wanted;

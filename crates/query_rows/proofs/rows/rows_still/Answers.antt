@@ -1,0 +1,24 @@
+use Rattle.std.proofs.Common.{◌≡◌, List, ℕ, map, ◌∙◌, ap, subst}
+use Rattle.std.specs.Prelude.{IfOk, Option, None}
+use Rattle.plan_schema.specs.declared.name.Name.{Name}
+use Rattle.planning_rules.specs.Plan.{Known, plan}
+use Rattle.query_language.specs.Trees.{query_tree}
+use Rattle.walk_rules.specs.Cells.{records, are_own_cells}
+use Rattle.query_rows.specs.Rows.{select_line, rows_over}
+use Rattle.query_rows.proofs.RowLaws.{rows_are_selected, apart}
+use Rattle.query_rows.proofs.StillLaws.{still_rows}
+use Rattle.query_rows.proofs.rows.rows_still.Goals as goal
+
+pub lines_over-requires : goal.lines_over-requires
+lines_over-requires c = ap are_own_cells c.as_slice.ensures.cells ∙ c.requires.own
+
+pub returns : goal.returns
+returns c =
+    let plans : Name → Option Known = λ _. None in
+    let query = query_tree c.args.query.now in
+    let cells = c.args.job.now.cells in
+    subst (λ (rows : List (List ℕ)). IfOk c.lines_over.result (λ lines. lines ≡ rows))
+    (ap (map select_line)
+    (ap (rows_over plans query) c.as_slice.ensures.cells ∙ rows_are_selected plans query cells c.requires.own (apart cells c.as_slice.ensures.ascending)
+    ∙ still_rows plans (plan (records cells)) (records cells) query c.requires.still))
+    c.lines_over.ensures

@@ -1,25 +1,19 @@
 -- A sound command is read from its spelling.
-use Rattle.std.proofs.Common.{◌≡◌, ℕ, ◌+◌, ◌<◌, ◌≤◌, ◌^◌, Bool, true, false, not, ◌&&◌, nat_le, nat_lt, List, [], ◌∷◌, ◌++◌, length, reverse, Option, Some, None, Result, Ok, Err, refl, ap, ◌∙◌, append-nil, arith}
-use Rattle.std.specs.Prelude.{codes, decimal, slice_index_or, is_ok}
+use Rattle.std.proofs.Common.{◌≡◌, ℕ, ◌<◌, ◌≤◌, ◌^◌, true, not, ◌&&◌, nat_le, List, [], ◌∷◌, reverse, Result, Ok, Err, refl, ap, ◌∙◌, append-nil, arith}
+use Rattle.std.specs.Prelude.{decimal, is_ok}
 use Rattle.std.specs.List.{list_all}
 use Rattle.std.proofs.lemmas.Bool.{and_parts}
 use Rattle.std.proofs.lemmas.Bool.Decides.{nat_tests}
-use Rattle.plan_schema.specs.declared.key.Key.{Key}
 use Rattle.plan_schema.specs.declared.key.Key.TheVariants as keys
-use Rattle.plan_schema.specs.declared.key.Lot.{Lot}
-use Rattle.plan_schema.specs.declared.key.Lot.TheVariants.{Exact, Fixed, Least, Period, Best}
-use Rattle.plan_schema.specs.declared.key.Span.{Span}
-use Rattle.plan_schema.specs.declared.key.Record.{Record}
-use Rattle.plan_schema.specs.declared.key.Record.TheVariants as records
 use Rattle.plan_schema.specs.declared.change.CellName.{CellName}
 use Rattle.plan_schema.specs.declared.change.CellName.TheVariants as cells
 use Rattle.plan_schema.specs.Name.{is_name}
 use Rattle.plan_schema.specs.Day.{is_day, day_text}
 use Rattle.plan_schema.specs.Key.{key_eq}
-use Rattle.plan_schema.specs.Sound.{is_sound_key, is_sound_row, is_sound_lot, is_sound_span, is_quantity, calendar_is_name, key_has_names, are_apart, record_has_names, is_within}
+use Rattle.plan_schema.specs.Sound.{is_sound_key, is_sound_row, key_has_names, are_apart}
 use Rattle.plan_schema.proofs.DayLaws.{day_read_again}
 use Rattle.row_text.specs.Row.{name_in, name_at, number_at, day_at, text_at, end_at}
-use Rattle.row_text.specs.Spelling.{words_text, key_fields, row_fields, record_fields, span_fields, lot_text, week_text, calendar_text, mark}
+use Rattle.row_text.specs.Spelling.{words_text, key_fields, row_fields}
 use Rattle.row_text.proofs.Fields.{and_true, number_again}
 use Rattle.row_text.proofs.Rows.{row_again}
 use Rattle.row_text.proofs.KeyForms.{key_again}

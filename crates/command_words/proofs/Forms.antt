@@ -1,7 +1,7 @@
 -- The text of a reply is a whole reply in form.
-use Rattle.std.proofs.Common.{◌≡◌, ℕ, suc, ◌+◌, ◌*◌, ◌^◌, ◌<◌, ◌≤◌, Bool, true, false, not, ◌&&◌, cond, nat_eq, nat_lt, nat_le, List, [], ◌∷◌, ◌++◌, length, take, drop, Option, Some, None, refl, sym, ap, ◌∙◌, append_assoc, append-nil, arith, length-append}
+use Rattle.std.proofs.Common.{◌≡◌, ℕ, suc, ◌+◌, ◌^◌, ◌<◌, ◌≤◌, Bool, true, false, not, ◌&&◌, cond, nat_eq, nat_lt, nat_le, List, [], ◌∷◌, ◌++◌, length, take, drop, Some, None, refl, ap, ◌∙◌, append_assoc, append-nil, arith, length-append}
 use Rattle.std.specs.Prelude.{codes, decimal, option_map}
-use Rattle.std.specs.List.{list_all, flat_map, position_or_len, starts_with}
+use Rattle.std.specs.List.{list_all, flat_map}
 use Rattle.std.proofs.lemmas.Bool.{and_parts}
 use Rattle.std.proofs.lemmas.Bool.Decides.{nat_tests}
 use Rattle.std.proofs.lemmas.Fmt.{length-decimal-le}
@@ -19,7 +19,7 @@ use Rattle.query_language.specs.declared.fault.QueryRule.TheVariants as query_ru
 use Rattle.row_text.specs.Spelling.{spaced, words_text, key_fields}
 use Rattle.row_text.proofs.Fields.{and_true, le_true, number_again}
 use Rattle.command_words.specs.Replies.{ended, room_word, refusal_words, rule_word, query_rule_word, bad_words, point_word, head_words, more_lines, reply_text}
-use Rattle.command_words.specs.Forms.{Form, Done, Listed, Refused, Faulty, form, lines_in, most_point, most_lines, longest_line, if_read_on, place_of, line_cut, lines_cut, if_read, point_of, count_of, listed, counted, ok_form, reasoned, no_form, bad_form, form_of_line, whole_reply, refusal_has_names, is_small, bad_is_small, is_line, is_within_limits}
+use Rattle.command_words.specs.Forms.{Done, Listed, Refused, Faulty, form, lines_in, most_point, most_lines, longest_line, if_read_on, place_of, line_cut, lines_cut, if_read, point_of, count_of, listed, counted, ok_form, reasoned, no_form, form_of_line, whole_reply, refusal_has_names, is_small, bad_is_small, is_line, is_within_limits}
 use Rattle.command_words.specs.declared.reply.Bad.{Bad}
 use Rattle.command_words.specs.declared.reply.Bad.TheVariants as bad
 use Rattle.command_words.specs.declared.reply.Reply.{Reply}

@@ -1,5 +1,5 @@
 -- How many pairs have a key that passes a test, after one is put or taken away: of contents, how many parts and how many records.
-use Rattle.std.proofs.Common.{◌≡◌, ◌⊎◌, inl, inr, ℕ, suc, ◌+◌, List, [], ◌∷◌, length, refl, sym, ◌∙◌, ap, Bool, true, false, cond, arith, subst}
+use Rattle.std.proofs.Common.{◌≡◌, ◌⊎◌, inl, inr, ℕ, suc, ◌+◌, List, [], ◌∷◌, length, refl, sym, ◌∙◌, ap, Bool, true, false, cond, arith}
 use Rattle.std.specs.Prelude.{Option, Some, None, is_some, count_by}
 use Rattle.std.proofs.lemmas.List.Sums.{sum_by-cons}
 use Rattle.std.specs.Map.{lookup, remove_entry}
@@ -13,7 +13,6 @@ use Rattle.scenario_rules.proofs.Maps.{is_equal, length_insert}
 use Rattle.scenario_rules.proofs.Keys.{key_total, key_exact}
 use Rattle.scenario_rules.specs.World.{changed}
 use Rattle.plan_schema.specs.declared.key.Key.{Key}
-use Rattle.plan_schema.specs.declared.key.Key.TheVariants as keys
 use Rattle.plan_schema.specs.declared.key.Record.{Record}
 use Rattle.plan_schema.specs.Key.{key_cmp}
 use Rattle.plan_schema.specs.Base.{is_part_key, part_count}

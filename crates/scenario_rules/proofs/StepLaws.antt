@@ -1,6 +1,6 @@
 -- What the changes do that the scenarios don't refuse.
 use Rattle.std.proofs.Common.{◌≡◌, List, [], ◌∷◌, refl, sym, ◌∙◌, ap, subst, Bool, true, false, cond, ◌&&◌, ℕ, ◌<◌, ◌≤◌, arith, ◌||◌}
-use Rattle.std.specs.Prelude.{Option, Some, None, is_some, is_none, unwrap_or, length, nat_le, nat_lt, count_by, IsSome}
+use Rattle.std.specs.Prelude.{Option, Some, None, is_some, is_none, unwrap_or, length, nat_le, nat_lt, IsSome}
 use Rattle.std.proofs.lemmas.Bool.Decides.{nat_tests}
 use Rattle.std.specs.List.{list_any, list_all, AllByRecursion}
 use Rattle.std.specs.FinMap.{is_sorted}
@@ -20,7 +20,7 @@ use Rattle.plan_schema.specs.Refusals.{first_of, where_so}
 use Rattle.plan_schema.specs.Base.{part_count}
 use Rattle.scenario_rules.specs.World.{OwnChanges, Scenario, World, root, is_root, root_with, scenario_at, scenario, with_scenario, parent_of, is_child_of, laid_over, contents_of, contents_in}
 use Rattle.scenario_rules.specs.Steps.{joined, with_changes, all_put, step}
-use Rattle.scenario_rules.specs.Refused.{named, no_scenario, denied, denied_parent, denied_owner, taken, at_root, has_children, too_deep, full_scenarios, no_record, conflict, changed_contents, full_parts, full_records, change_rules, scenario_refusal}
+use Rattle.scenario_rules.specs.Refused.{named, no_scenario, changed_contents, change_rules, scenario_refusal}
 use Rattle.scenario_rules.specs.Whole.{AreWithinLimits, is_sound_own, IsWholeScenario, HasParent, IsWhole}
 use Rattle.scenario_rules.specs.Laws.{StepLeavesOthers, DropIsGone, DropLeavesOthers, shown, UpdateShowsParent, CommitJoins, CommitKeepsOthers, StepKeepsWhole}
 use Rattle.scenario_rules.proofs.Maps.{both_parts, both_so}

@@ -1,9 +1,8 @@
 -- Why a change is refused.
-use Rattle.std.specs.Prelude.{ℕ, ◌+◌, Bool, true, false, not, ◌&&◌, ◌||◌, nat_lt, nat_le, List, [], ◌∷◌, length, map, sum_by, ◌++◌, Option, Some, None, is_some, is_none}
+use Rattle.std.specs.Prelude.{ℕ, ◌+◌, not, ◌&&◌, ◌||◌, nat_lt, nat_le, List, [], ◌∷◌, length, map, sum_by, ◌++◌, Option, Some, None, is_some, is_none}
 use Rattle.std.specs.List.{list_any}
 use Rattle.plan_schema.specs.declared.name.Name.{Name}
 use Rattle.plan_schema.specs.declared.key.Key.{Key}
-use Rattle.plan_schema.specs.declared.key.Key.TheVariants as keys
 use Rattle.plan_schema.specs.declared.key.Record.{Record}
 use Rattle.plan_schema.specs.declared.change.Change.{Change}
 use Rattle.plan_schema.specs.declared.change.Change.TheVariants as changes
@@ -137,7 +136,7 @@ record_counts history = sum_by (λ entry. record_count entry.change) history
 
 -- the journal has as many entries as it may, or its records with those of the change would be more than it may carry
 abbrev pub full_journal : List Entry → Change → Option Refusal
-full_journal history change = 
+full_journal history change =
     where_so (nat_le ENTRY_LIMIT (length history) || nat_lt CARRIED_LIMIT (record_counts history + record_count change)) (refusals.Full rooms.Journal)
 
 -- why a change may be refused, rule by rule, in the order in which the rules are looked at: whether the user may use the named

@@ -91,7 +91,8 @@ impl Command<'_> {
     /// The change that the command makes by itself. A LOAD makes none: its rows stand in the lines behind it.
     pub fn change(&self) -> Option<Change>
         ensures value { result ≡ change_of self.now }
-        ensures sound { is_sound_command self.now ≡ true → IfSome result (λ change. is_sound_change change ≡ true) }
+        ensures sound { is_sound_command self.now ≡ true
+            → IfSome result (λ change. is_sound_change change ≡ true) }
     {
         match self {
             Command::Put {

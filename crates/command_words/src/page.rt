@@ -23,7 +23,8 @@ pub fn flush<S: Sink>(page: &mut Page, sink: &mut S) -> Result<(), SinkFault>
 
 /// Adds a text behind what is gathered. Where there is no room for it, that is written first.
 pub(crate) fn put<S: Sink>(page: &mut Page, text: &[u8], sink: &mut S) -> Result<(), SinkFault>
-    ensures { Gathered S.taken S.faults S.label sink.old sink.new page.old.items page.new.items text.now result }
+    ensures { Gathered S.taken S.faults S.label sink.old sink.new page.old.items page.new.items
+        text.now result }
 {
     if let Ok(()) = page.try_extend_from_slice(text) {
         return Ok(());
@@ -35,7 +36,8 @@ pub(crate) fn put<S: Sink>(page: &mut Page, text: &[u8], sink: &mut S) -> Result
 /// Begins a page with a text, or writes one that is too long for a page.
 fn put_first<S: Sink>(page: &mut Page, text: &[u8], sink: &mut S) -> Result<(), SinkFault>
     requires { page.old.items ≡ [] }
-    ensures { Gathered S.taken S.faults S.label sink.old sink.new page.old.items page.new.items text.now result }
+    ensures { Gathered S.taken S.faults S.label sink.old sink.new page.old.items page.new.items
+        text.now result }
 {
     if let Ok(()) = page.try_extend_from_slice(text) {
         return Ok(());
@@ -45,7 +47,8 @@ fn put_first<S: Sink>(page: &mut Page, text: &[u8], sink: &mut S) -> Result<(), 
 
 /// Adds a line with its line feed. Where there is no room for it, what is gathered is written first.
 pub fn put_line<S: Sink>(page: &mut Page, line: &[u8], sink: &mut S) -> Result<(), SinkFault>
-    ensures { Gathered S.taken S.faults S.label sink.old sink.new page.old.items page.new.items (ended line.now) result }
+    ensures { Gathered S.taken S.faults S.label sink.old sink.new page.old.items page.new.items
+        (ended line.now) result }
 {
     put(page, line, sink)?;
     put(page, b"\n", sink)
@@ -57,7 +60,8 @@ pub(crate) fn put_lines<S: Sink>(
     lines: &[Vec<u8>],
     sink: &mut S,
 ) -> Result<(), SinkFault>
-    ensures { Gathered S.taken S.faults S.label sink.old sink.new page.old.items page.new.items (flat_map ended (map (λ line. line.items) lines.now)) result }
+    ensures { Gathered S.taken S.faults S.label sink.old sink.new page.old.items page.new.items
+        (flat_map ended (map (λ line. line.items) lines.now)) result }
 {
     for line in lines {
         if let Err(fault) = put_line(page, line.as_slice(), sink) {

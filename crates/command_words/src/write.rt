@@ -27,7 +27,8 @@ pub fn write_reply<S: Sink>(reply: &Reply, sink: &mut S) -> Result<(), SinkFault
 /// Adds the text of a reply.
 #[tactic(auto, unfolding(crate::specs::Replies::reply_text))]
 pub fn put_reply<S: Sink>(page: &mut Page, reply: &Reply, sink: &mut S) -> Result<(), SinkFault>
-    ensures { Gathered S.taken S.faults S.label sink.old sink.new page.old.items page.new.items (reply_text reply.now) result }
+    ensures { Gathered S.taken S.faults S.label sink.old sink.new page.old.items page.new.items
+        (reply_text reply.now) result }
 {
     put(page, head_bytes(reply).as_slice(), sink)?;
     put_lines(page, more_lines(reply), sink)

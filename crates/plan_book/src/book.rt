@@ -82,7 +82,8 @@ impl Book {
     }
 
     fn put_refusal(&self, scenario: &Name, key: &Key) -> Option<Refusal>
-        ensures { (user : Name) (value : Record) → result ≡ refused self.now.base self.now.entries user (changes.Put scenario.now key.now value) }
+        ensures { (user : Name) (value : Record) → result
+            ≡ refused self.now.base self.now.entries user (changes.Put scenario.now key.now value) }
     {
         let records = &self.records;
         if !is_root(scenario) {
@@ -98,7 +99,8 @@ impl Book {
     }
 
     fn del_refusal(&self, scenario: &Name, key: &Key) -> Option<Refusal>
-        ensures { (user : Name) → result ≡ refused self.now.base self.now.entries user (changes.Del scenario.now key.now) }
+        ensures { (user : Name) → result
+            ≡ refused self.now.base self.now.entries user (changes.Del scenario.now key.now) }
     {
         let records = self.records.records();
         if !is_root(scenario) {
@@ -112,7 +114,8 @@ impl Book {
 
     /// Why the journal takes no change of one record, if it has no room.
     fn journal_refusal(&self) -> Option<Refusal>
-        ensures { (change : Change) → is_of_one_record change ≡ true → result ≡ full_journal self.now.entries change }
+        ensures { (change : Change) → is_of_one_record change ≡ true → result
+            ≡ full_journal self.now.entries change }
     {
         if self.journal.len() >= ENTRY_LIMIT || self.carried >= CARRIED_LIMIT {
             return Some(Refusal::Full(Room::Journal));
@@ -125,7 +128,8 @@ impl Book {
         requires sound { is_sound_entry entry ≡ true }
         requires single { is_of_one_record entry.change ≡ true }
         requires allowed { refused self.old.base self.old.entries entry.user entry.change ≡ None }
-        ensures ok { OnOk result (self.new ≡ record { base = self.old.base; entries = self.old.entries ++ entry ∷ [] }) }
+        ensures ok { OnOk result
+            (self.new ≡ record { base = self.old.base; entries = self.old.entries ++ entry ∷ [] }) }
         ensures err { OnErr result (self.new ≡ self.old) }
     {
         self.journal.reserve()?;
@@ -195,7 +199,8 @@ fn change_records(records: &mut Counted, entry: &Entry) -> Result<(), AllocError
     requires fit { is_base records.old ≡ true }
     requires single { is_of_one_record entry.now.change ≡ true }
     requires root { is_root (named entry.now.change) ≡ true }
-    ensures ok { OnOk result (begin_with records.new ≡ step (begin_with records.old) entry.now.user entry.now.change) }
+    ensures ok { OnOk result
+        (begin_with records.new ≡ step (begin_with records.old) entry.now.user entry.now.change) }
     ensures err { OnErr result (records.new ≡ records.old) }
 {
     match &entry.change {

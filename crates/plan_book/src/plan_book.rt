@@ -26,7 +26,9 @@ pub trait PlanBook: Storied<Entry = Entry, Basis = Ground> {
 
     /// The records of a scenario after all entries, with the number of entries.
     fn read<'a>(&'a self, user: &Name, scenario: &Name) -> Result<(u64, &'a Contents), BookFault>
-        ensures ok { IfOk result (λ read. IsRead (Self.basis self.now) (Self.story self.now) user.now scenario.now read.0 read.1.now) }
+        ensures ok { IfOk result
+            (λ read. IsRead (Self.basis self.now) (Self.story self.now) user.now scenario.now read.0
+            read.1.now) }
         ensures err { IfErr result (IsReadFault (Self.basis self.now) (Self.story self.now) user.now scenario.now) };
 
     /// How many entries there are.

@@ -94,8 +94,10 @@ fn add_row(
     number: u32,
     row: &ByteRecord,
 ) -> Result<(), ImportFault>
-    ensures ok { OnOk result (with_numbered number contents.old (fields_of row.now) ≡ Ok contents.new) }
-    ensures err { IfErr result (TellsFault (with_numbered number contents.old (fields_of row.now))) }
+    ensures ok { OnOk result
+        (with_numbered number contents.old (fields_of row.now) ≡ Ok contents.new) }
+    ensures err { IfErr result
+        (TellsFault (with_numbered number contents.old (fields_of row.now))) }
     ensures sound { are_sound_rows contents.old ≡ true → are_sound_rows contents.new ≡ true }
 {
     match fields_of_row(alloc, row) {
@@ -107,7 +109,8 @@ fn add_row(
 /// Adds the row that the fields spell.
 #[tactic(auto, unfolding(crate::specs::BaseFile::with_numbered))]
 fn add_fields(contents: &mut Contents, number: u32, fields: &[&[u8]]) -> Result<(), ImportFault>
-    ensures ok { OnOk result (with_numbered number contents.old (texts fields.now) ≡ Ok contents.new) }
+    ensures ok { OnOk result
+        (with_numbered number contents.old (texts fields.now) ≡ Ok contents.new) }
     ensures err { IfErr result (TellsFault (with_numbered number contents.old (texts fields.now))) }
     ensures sound { are_sound_rows contents.old ≡ true → are_sound_rows contents.new ≡ true }
 {

@@ -106,7 +106,8 @@ pub(crate) fn begin(alloc: Global, version: Version, number: u64, line: &[u8]) -
 /// What stands behind an entry's number.
 #[tactic(auto, unfolding(crate::specs::Begun::behind_number))]
 fn behind_number(number: u64, line: &[u8]) -> Option<&[u8]>
-    ensures { MatchOption result (spec.behind_number number line.now ≡ None) (λ behind. spec.behind_number number line.now ≡ Some behind.now) }
+    ensures { MatchOption result (spec.behind_number number line.now ≡ None)
+        (λ behind. spec.behind_number number line.now ≡ Some behind.now) }
 {
     let (word, behind) = cut_at(b' ', line)?;
     let mut buffer = Buffer::new();
@@ -121,7 +122,8 @@ fn behind_number(number: u64, line: &[u8]) -> Option<&[u8]>
 #[tactic(auto, unfolding(crate::specs::Begun::number_before))]
 fn number_before(low: u64, high: u64, text: &[u8]) -> Option<(u64, &[u8])>
     requires { high < 2 ^ 60 }
-    ensures { MatchOption result (spec.number_before low high text.now ≡ None) (λ parts. spec.number_before low high text.now ≡ Some (parts.0, parts.1.now)) }
+    ensures { MatchOption result (spec.number_before low high text.now ≡ None)
+        (λ parts. spec.number_before low high text.now ≡ Some (parts.0, parts.1.now)) }
 {
     let (word, behind) = cut_at(b' ', text)?;
     let number = read_number(word, low, high).ok()?;

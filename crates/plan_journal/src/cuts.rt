@@ -4,7 +4,8 @@ ghost use Rattle.plan_journal.specs.Cuts as spec;
 
 /// A text up to the first place of a byte, and what stands behind that place.
 pub(crate) fn cut_at(mark: u8, text: &[u8]) -> Option<(&[u8], &[u8])>
-    ensures { MatchOption result (spec.cut_at mark text.now ≡ None) (λ parts. spec.cut_at mark text.now ≡ Some (parts.0.now, parts.1.now)) }
+    ensures { MatchOption result (spec.cut_at mark text.now ≡ None)
+        (λ parts. spec.cut_at mark text.now ≡ Some (parts.0.now, parts.1.now)) }
 {
     match place_of(mark, text) {
         Some(place) => Some((&text[..place], &text[place + 1..])),

@@ -81,7 +81,8 @@ impl Journal {
 
     /// The last entry, if there are entries.
     pub(crate) fn into_last(self) -> Option<Entry>
-        ensures { MatchOption result (self.entries ≡ []) (λ entry. (front : List Entry) × (self.entries ≡ front ++ entry ∷ [])) }
+        ensures { MatchOption result (self.entries ≡ [])
+            (λ entry. (front : List Entry) × (self.entries ≡ front ++ entry ∷ [])) }
     {
         let mut entries = self.entries;
         entries.pop()

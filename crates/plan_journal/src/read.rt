@@ -19,8 +19,11 @@ use std::alloc::{AllocError, Global};
 
 /// The sound entry whose text with a number is exactly this one, if there is one.
 pub fn read_entry(alloc: Global, number: u64, text: &[u8]) -> Result<Option<Entry>, AllocError>
-    ensures found { IfOk result (λ found. IfSome found (λ entry. (is_sound_entry entry ≡ true) × (text.now ≡ entry_text number entry))) }
-    ensures none { result ≡ Ok None → (entry : Entry) → is_sound_entry entry ≡ true → text.now ≡ entry_text number entry → ⊥ }
+    ensures found { IfOk result
+        (λ found. IfSome found
+        (λ entry. (is_sound_entry entry ≡ true) × (text.now ≡ entry_text number entry))) }
+    ensures none { result ≡ Ok None → (entry : Entry) → is_sound_entry entry ≡ true → text.now
+        ≡ entry_text number entry → ⊥ }
 {
     let frame = Frame {
         version: Version::Two,

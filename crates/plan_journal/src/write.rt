@@ -23,7 +23,8 @@ type LineText = ArrayVec<u8, 512>;
 
 /// Writes the one spelling of an entry under its number, which counts from 1. Takes no memory but the sink's own.
 pub fn write_entry<S: Sink>(number: u64, entry: &Entry, sink: &mut S) -> Result<(), SinkFault>
-    ensures { Wrote S.taken S.faults S.label sink.old sink.new (entry_text number entry.now) result }
+    ensures { Wrote S.taken S.faults S.label sink.old sink.new (entry_text number entry.now)
+        result }
 {
     let mut page = Page::new();
     put_entry(&mut page, number, entry, sink)?;
@@ -32,7 +33,8 @@ pub fn write_entry<S: Sink>(number: u64, entry: &Entry, sink: &mut S) -> Result<
 
 /// Writes the one spelling of a journal. Takes no memory but the sink's own.
 pub fn write_journal<S: Sink>(journal: &Journal, sink: &mut S) -> Result<(), SinkFault>
-    ensures { Wrote S.taken S.faults S.label sink.old sink.new (journal_text journal.now.entries) result }
+    ensures { Wrote S.taken S.faults S.label sink.old sink.new (journal_text journal.now.entries)
+        result }
 {
     let mut page = Page::new();
     put_journal(&mut page, journal, sink)?;
@@ -42,7 +44,8 @@ pub fn write_journal<S: Sink>(journal: &Journal, sink: &mut S) -> Result<(), Sin
 /// Adds the text of a journal.
 #[tactic(auto, unfolding(crate::specs::Entries::journal_text))]
 fn put_journal<S: Sink>(page: &mut Page, journal: &Journal, sink: &mut S) -> Result<(), SinkFault>
-    ensures { Gathered S.taken S.faults S.label sink.old sink.new page.old.items page.new.items (journal_text journal.now.entries) result }
+    ensures { Gathered S.taken S.faults S.label sink.old sink.new page.old.items page.new.items
+        (journal_text journal.now.entries) result }
 {
     put_line(page, HEAD, sink)?;
     put_entries(page, journal.as_slice(), sink)
@@ -50,7 +53,8 @@ fn put_journal<S: Sink>(page: &mut Page, journal: &Journal, sink: &mut S) -> Res
 
 /// Adds the texts of entries, numbered from 1.
 fn put_entries<S: Sink>(page: &mut Page, entries: &[Entry], sink: &mut S) -> Result<(), SinkFault>
-    ensures { Gathered S.taken S.faults S.label sink.old sink.new page.old.items page.new.items (entries_text 1 entries.now) result }
+    ensures { Gathered S.taken S.faults S.label sink.old sink.new page.old.items page.new.items
+        (entries_text 1 entries.now) result }
 {
     for (place, entry) in entries.iter().enumerate() {
         if let Err(fault) = put_entry(page, place as u64 + 1, entry, sink) {
@@ -68,7 +72,8 @@ fn put_entry<S: Sink>(
     entry: &Entry,
     sink: &mut S,
 ) -> Result<(), SinkFault>
-    ensures { Gathered S.taken S.faults S.label sink.old sink.new page.old.items page.new.items (entry_text number entry.now) result }
+    ensures { Gathered S.taken S.faults S.label sink.old sink.new page.old.items page.new.items
+        (entry_text number entry.now) result }
 {
     put_line(page, line_bytes(number, entry).as_slice(), sink)?;
     put_rows(page, rows_of(&entry.change), sink)
@@ -92,7 +97,8 @@ fn rows_of(change: &Change) -> &[(Key, Record)]
 
 /// Adds rows, a line each.
 fn put_rows<S: Sink>(page: &mut Page, rows: &[(Key, Record)], sink: &mut S) -> Result<(), SinkFault>
-    ensures { Gathered S.taken S.faults S.label sink.old sink.new page.old.items page.new.items (rows_text rows.now) result }
+    ensures { Gathered S.taken S.faults S.label sink.old sink.new page.old.items page.new.items
+        (rows_text rows.now) result }
 {
     for row in rows {
         if let Err(fault) = put_row(page, row, sink) {
@@ -104,7 +110,8 @@ fn put_rows<S: Sink>(page: &mut Page, rows: &[(Key, Record)], sink: &mut S) -> R
 
 /// Adds a row's line.
 fn put_row<S: Sink>(page: &mut Page, row: &(Key, Record), sink: &mut S) -> Result<(), SinkFault>
-    ensures { Gathered S.taken S.faults S.label sink.old sink.new page.old.items page.new.items (ended (row_text row.now.0 row.now.1)) result }
+    ensures { Gathered S.taken S.faults S.label sink.old sink.new page.old.items page.new.items
+        (ended (row_text row.now.0 row.now.1)) result }
 {
     put_line(page, row_bytes(&row.0, &row.1).as_slice(), sink)
 }

@@ -108,7 +108,8 @@ impl Gathering {
     /// What it comes to, once its last row was read.
     pub(crate) fn finish(self) -> Gathered
         requires { self.read ≡ self.count }
-        ensures { (r : Begun) → IsGathered r self → ComesTo (load_wish r.scenario r.count r.rows) result }
+        ensures { (r : Begun) → IsGathered r self
+            → ComesTo (load_wish r.scenario r.count r.rows) result }
     {
         let Gathering {
             scenario,
@@ -127,7 +128,8 @@ impl Gathering {
     /// Why it isn't in the grammar, where its last rows are missing.
     pub(crate) fn cut_short(self) -> Bad
         requires { self.read < self.count }
-        ensures { (r : Begun) → IsGathered r self → load_wish r.scenario r.count r.rows ≡ IsBad result }
+        ensures { (r : Begun) → IsGathered r self → load_wish r.scenario r.count r.rows
+            ≡ IsBad result }
     {
         self.fault.unwrap_or(Bad::Short)
     }

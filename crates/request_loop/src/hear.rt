@@ -88,7 +88,8 @@ pub(crate) fn hear<A: Answers, K: Sink>(
 
 /// Whether a line that isn't too long is blank.
 fn is_blank_text(line: &Option<&[u8]>) -> bool
-    ensures { (number : ℕ) → result ≡ requests.is_blank_line (number, option_map (λ text. text.now) line.now) }
+    ensures { (number : ℕ) → result
+        ≡ requests.is_blank_line (number, option_map (λ text. text.now) line.now) }
 {
     match line {
         Some(text) => is_blank(text),
@@ -250,7 +251,8 @@ fn answer_command<A: Answers, K: Sink>(
     requires sound { is_sound_command command.now ≡ true }
     ensures ready { A.ready answers.now state.new }
     ensures cause { WriteCauses K.faults K.label sink.old sink.new result }
-    ensures user { OnOk result (user.new ≡ requests.user_after user.old (requests.wish_of command.now)) }
+    ensures user { OnOk result
+        (user.new ≡ requests.user_after user.old (requests.wish_of command.now)) }
     ensures last { IfOk result (λ answer. answer.is_last ≡ requests.is_quit (Ok command.now)) }
     ensures ok { IfOk result (λ answer.
         IsTaken (A.gives answers.now) (A.stops answers.now) K.taken state.old state.new user.old

@@ -49,7 +49,8 @@ pub fn serve_requests<A: Answers, S: Source, K: Sink>(
 ) -> Served
     requires { A.ready answers.now state.old }
     ensures ready { A.ready answers.now state.new }
-    ensures cause { Ending S.faults S.label K.faults K.label source.old source.new sink.old sink.new result }
+    ensures cause { Ending S.faults S.label K.faults K.label source.old source.new sink.old sink.new
+        result }
     ensures served { HasServed (A.gives answers.now) (A.stops answers.now) state.old state.new
         (S.left source.old) (K.taken sink.old) (K.taken sink.new) result }
 {
@@ -93,7 +94,8 @@ pub fn serve_requests<A: Answers, S: Source, K: Sink>(
 /// How a session ends, once what the page holds is written.
 fn ended<K: Sink>(end: Result<(), Stop>, requests: u64, page: &mut Page, sink: &mut K) -> Served
     ensures later { K.faults sink.old ≤ K.faults sink.new }
-    ensures failed { result ≡ ends.WriteFault → (end ≡ Err (stop.Sink sinks.Failed)) ⊎ Rose (K.faults sink.old) (K.faults sink.new) }
+    ensures failed { result ≡ ends.WriteFault → (end ≡ Err (stop.Sink sinks.Failed))
+        ⊎ Rose (K.faults sink.old) (K.faults sink.new) }
     ensures read { result ≢ ends.ReadFault }
     ensures same { K.label sink.new ≡ K.label sink.old }
     ensures text { HasEnded K.taken sink.old sink.new page.old.items requests end result }
@@ -136,9 +138,13 @@ fn serve_piece<A: Answers, K: Sink>(
     requires rows { AreBegun progress.old.rows }
     requires begun { progress.old.cutter.is_complete ≡ false }
     ensures begun { OnOk result (progress.new.cutter.is_complete ≡ false) }
-    ensures kept { OnOk result (progress.new.cutter.kept ≡ (lines_from progress.old.cutter.kept piece.now).1) }
-    ensures counted { OnOk result (progress.new.lines ≡ progress.old.lines + length (lines_from progress.old.cutter.kept piece.now).0) }
-    ensures most { progress.new.lines ≤ progress.old.lines + length (lines_from progress.old.cutter.kept piece.now).0 }
+    ensures kept { OnOk result
+        (progress.new.cutter.kept ≡ (lines_from progress.old.cutter.kept piece.now).1) }
+    ensures counted { OnOk result
+        (progress.new.lines ≡ progress.old.lines
+        + length (lines_from progress.old.cutter.kept piece.now).0) }
+    ensures most { progress.new.lines ≤ progress.old.lines
+        + length (lines_from progress.old.cutter.kept piece.now).0 }
     ensures rows { AreBegun progress.new.rows }
     ensures ready { A.ready answers.now state.new }
     ensures cause { WriteCauses K.faults K.label sink.old sink.new result }

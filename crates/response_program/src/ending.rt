@@ -90,7 +90,8 @@ impl<'a> Ending<'a> {
 
     /// Writes the line that tells it.
     pub fn tell<K: Sink>(&self, console: &mut K) -> Result<(), SinkFault>
-        ensures { Wrote K.taken K.faults K.label console.old console.new (spec.console_line (outcome_of self.now)) result }
+        ensures { Wrote K.taken K.faults K.label console.old console.new
+            (spec.console_line (outcome_of self.now)) result }
     {
         match self {
             Ending::Done(entries) => write_all(console, done_line(*entries).as_slice()),
@@ -106,7 +107,8 @@ impl<'a> Ending<'a> {
 
 /// Writes what failed, and the name of the file.
 fn tell_of<K: Sink>(console: &mut K, word: &[u8], name: &str) -> Result<(), SinkFault>
-    ensures { Wrote K.taken K.faults K.label console.old console.new (word.now ++ (name.now ++ 10 ∷ [])) result }
+    ensures { Wrote K.taken K.faults K.label console.old console.new
+        (word.now ++ (name.now ++ 10 ∷ [])) result }
 {
     write_all(console, word)?;
     tell_name(console, name)

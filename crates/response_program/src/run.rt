@@ -43,7 +43,8 @@ pub fn response<H: Shelf>(alloc: Global, words: &[String], shelf: &mut H) -> u8
 
 /// Tells the console that the words aren't the program's.
 fn refuse<H: Shelf>(shelf: &mut H) -> u8
-    ensures { HasRefused (view H.held H.open_faults H.read_faults H.write_faults shelf.old) (view H.held H.open_faults H.read_faults H.write_faults shelf.new) result }
+    ensures { HasRefused (view H.held H.open_faults H.read_faults H.write_faults shelf.old)
+        (view H.held H.open_faults H.read_faults H.write_faults shelf.new) result }
 {
     let mut console = match shelf.make_out(CONSOLE) {
         Ok(console) => console,
@@ -61,7 +62,9 @@ fn refuse<H: Shelf>(shelf: &mut H) -> u8
 /// A run, with the console told how it ended.
 fn run_told<H: Shelf>(alloc: Global, names: &RunWords<'_>, shelf: &mut H) -> u8
     requires { Differ (names_of names.now) }
-    ensures { HasResponded (view H.held H.open_faults H.read_faults H.write_faults shelf.old) (view H.held H.open_faults H.read_faults H.write_faults shelf.new) (names_of names.now) result }
+    ensures { HasResponded (view H.held H.open_faults H.read_faults H.write_faults shelf.old)
+        (view H.held H.open_faults H.read_faults H.write_faults shelf.new) (names_of names.now)
+        result }
 {
     let mut console = match shelf.make_out(CONSOLE) {
         Ok(console) => console,
@@ -76,7 +79,9 @@ fn run_told<H: Shelf>(alloc: Global, names: &RunWords<'_>, shelf: &mut H) -> u8
 /// Reads the base, and runs over it.
 fn run<'a, H: Shelf>(alloc: Global, names: &RunWords<'a>, shelf: &mut H) -> Ending<'a>
     requires { Differ (names_of names.now) }
-    ensures { HasRun (view H.held H.open_faults H.read_faults H.write_faults shelf.old) (view H.held H.open_faults H.read_faults H.write_faults shelf.new) (names_of names.now) (outcome_of result) }
+    ensures { HasRun (view H.held H.open_faults H.read_faults H.write_faults shelf.old)
+        (view H.held H.open_faults H.read_faults H.write_faults shelf.new) (names_of names.now)
+        (outcome_of result) }
 {
     let mut source = match shelf.open_in(names.base) {
         Ok(source) => source,
@@ -99,7 +104,9 @@ fn run_book<'a, H: Shelf>(
 ) -> Ending<'a>
     requires base { is_base contents ≡ true }
     requires differ { Differ (names_of names.now) }
-    ensures { HasRunBook (view H.held H.open_faults H.read_faults H.write_faults shelf.old) (view H.held H.open_faults H.read_faults H.write_faults shelf.new) (names_of names.now) contents (outcome_of result) }
+    ensures { HasRunBook (view H.held H.open_faults H.read_faults H.write_faults shelf.old)
+        (view H.held H.open_faults H.read_faults H.write_faults shelf.new) (names_of names.now)
+        contents (outcome_of result) }
 {
     let begun = Book::begin(alloc, &contents);
     drop(contents);
@@ -119,7 +126,9 @@ fn run_over<'a, H: Shelf>(
 ) -> Ending<'a>
     requires empty { book.old.entries ≡ [] }
     requires differ { Differ (names_of names.now) }
-    ensures { HasRunOver (view H.held H.open_faults H.read_faults H.write_faults shelf.old) (view H.held H.open_faults H.read_faults H.write_faults shelf.new) (names_of names.now) book.old.base book.new.entries (outcome_of result) }
+    ensures { HasRunOver (view H.held H.open_faults H.read_faults H.write_faults shelf.old)
+        (view H.held H.open_faults H.read_faults H.write_faults shelf.new) (names_of names.now)
+        book.old.base book.new.entries (outcome_of result) }
 {
     let mut journal = match shelf.make_out(names.journal) {
         Ok(journal) => journal,
@@ -151,7 +160,9 @@ fn run_desk<'a, H: Shelf>(
     requires { book.old.entries ≡ [] }
     ensures kept { book.new.base ≡ book.old.base }
     ensures unserved { OnErr result (book.new ≡ book.old) }
-    ensures desk { HasRunDesk (view H.held H.open_faults H.read_faults H.write_faults shelf.old) (view H.held H.open_faults H.read_faults H.write_faults shelf.new) (names_of names.now) book.old.base book.new.entries result }
+    ensures desk { HasRunDesk (view H.held H.open_faults H.read_faults H.write_faults shelf.old)
+        (view H.held H.open_faults H.read_faults H.write_faults shelf.new) (names_of names.now)
+        book.old.base book.new.entries result }
 {
     let mut source = match shelf.open_in(names.input) {
         Ok(source) => source,
@@ -173,7 +184,10 @@ fn serve_desk<'a, H: Shelf>(
     requires { book.old.entries ≡ [] }
     ensures kept { book.new.base ≡ book.old.base }
     ensures unserved { OnErr result (book.new ≡ book.old) }
-    ensures desk { HasServedDesk H.In.left H.In.faults H.In.label source.old source.new (view H.held H.open_faults H.read_faults H.write_faults shelf.old) (view H.held H.open_faults H.read_faults H.write_faults shelf.new) (names_of names.now) book.old.base book.new.entries result }
+    ensures desk { HasServedDesk H.In.left H.In.faults H.In.label source.old source.new
+        (view H.held H.open_faults H.read_faults H.write_faults shelf.old)
+        (view H.held H.open_faults H.read_faults H.write_faults shelf.new) (names_of names.now)
+        book.old.base book.new.entries result }
 {
     let mut sink = match shelf.make_out(names.output) {
         Ok(sink) => sink,

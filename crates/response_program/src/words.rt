@@ -18,7 +18,8 @@ pub struct RunWords<'a> {
 #[tactic(auto, unfolding(crate::specs::Words::is_run))]
 pub fn read_words(words: &[String]) -> Option<RunWords<'_>>
     ensures found { is_some result ≡ spec.is_run (map string_bytes words.now) }
-    ensures names { IfSome result (λ names. names_of names ≡ names_in (map string_bytes words.now)) }
+    ensures names { IfSome result
+        (λ names. names_of names ≡ names_in (map string_bytes words.now)) }
 {
     if words.len() != 5 {
         return None;
@@ -41,8 +42,12 @@ fn names_of<'a>(
     input: &'a str,
     output: &'a str,
 ) -> Option<RunWords<'a>>
-    ensures found { is_some result ≡ spec.is_run_of command.now base.now journal.now input.now output.now }
-    ensures names { IfSome result (λ names. names_of names ≡ record { base = base.now; journal = journal.now; input = input.now; output = output.now }) }
+    ensures found { is_some result
+        ≡ spec.is_run_of command.now base.now journal.now input.now output.now }
+    ensures names { IfSome result
+        (λ names. names_of names
+        ≡ record { base = base.now; journal = journal.now; input = input.now; output = output.now
+        }) }
 {
     if command == "run"
         && (is_file(base) && is_file(journal) && is_file(input) && is_file(output))

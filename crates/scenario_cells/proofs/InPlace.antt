@@ -1,6 +1,6 @@
 -- LOAD in place.
 use Rattle.std.proofs.Common.{◌≡◌, ◌≢◌, ℕ, [], ◌∷◌, refl, sym, ◌∙◌, ap, subst, Bool, true, false}
-use Rattle.std.specs.Prelude.{Option, Some, if◌then◌else◌, count_by, length}
+use Rattle.std.specs.Prelude.{Option, Some, if◌then◌else◌, length}
 use Rattle.std.specs.BTreeMap.{insert_entry}
 use Rattle.plan_schema.specs.declared.key.Key.{Key}
 use Rattle.plan_schema.specs.declared.key.Record.{Record}

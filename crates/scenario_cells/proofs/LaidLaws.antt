@@ -1,6 +1,6 @@
 -- One own change more, laid over a parent's contents.
 use Rattle.std.proofs.Common.{◌≡◌, ◌≢◌, ℕ, ◌+◌, ◌<◌, [], ◌∷◌, ◌++◌, refl, sym, ◌∙◌, ap, subst, Bool, true, false, cond, not, ◌&&◌, ◌||◌, arith, length}
-use Rattle.std.specs.Prelude.{Option, Some, None, if◌then◌else◌, is_some, count_by, unwrap_or}
+use Rattle.std.specs.Prelude.{Option, Some, None, if◌then◌else◌, is_some, unwrap_or}
 use Rattle.std.specs.FinMap.{is_sorted}
 use Rattle.std.specs.FinMap.Entries.{below_all}
 use Rattle.scenario_rules.proofs.Maps.{both_parts}

@@ -1,5 +1,5 @@
 -- What the memory of a scenario shows: its ids are those of cells in a store, and its contents are made of these cells.
-use Rattle.std.specs.Prelude.{◌≡◌, ◌≢◌, ℕ, Bool, true, false, if◌then◌else◌, [], fold, length, count_by, Option, Some, None, unwrap_or}
+use Rattle.std.specs.Prelude.{◌≡◌, ◌≢◌, ℕ, Bool, true, false, if◌then◌else◌, [], fold, length, Option, Some, None, unwrap_or}
 use Rattle.std.specs.FinMap.{is_sorted}
 use Rattle.plan_schema.specs.declared.change.CellName.{CellName}
 use Rattle.plan_schema.specs.Key.{key_cmp}

@@ -1,5 +1,5 @@
 -- Whether contents have more parts and records than they may, by counts that are kept.
-use Rattle.std.specs.Prelude.{◌≡◌, ℕ, ◌+◌, ◌≤◌, ◌&&◌, Bool, if◌then◌else◌, [], ◌∷◌, length, count_by, nat_lt, Option}
+use Rattle.std.specs.Prelude.{◌≡◌, ℕ, ◌+◌, ◌≤◌, ◌&&◌, Bool, if◌then◌else◌, [], ◌∷◌, length, nat_lt, Option}
 use Rattle.plan_schema.specs.declared.key.Key.{Key}
 use Rattle.plan_schema.specs.declared.limits.TheConstants.{PART_LIMIT, RECORD_LIMIT}
 use Rattle.plan_schema.specs.declared.refusal.Refusal.{Refusal}
@@ -13,7 +13,7 @@ use Rattle.scenario_cells.specs.declared.room.Tally.{Tally}
 
 -- the refusal of so many parts and records
 abbrev pub refused_counts : ℕ → ℕ → Option Refusal
-refused_counts parts records = 
+refused_counts parts records =
     first_of (where_so (nat_lt PART_LIMIT parts) (refusals.Full rooms.Parts) ∷ where_so (nat_lt RECORD_LIMIT records) (refusals.Full rooms.Records) ∷ [])
 
 -- the refusal of contents

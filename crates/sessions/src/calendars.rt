@@ -22,7 +22,9 @@ pub fn calendar_in(
     requires start { start.now ≡ start_of contents.now }
     requires days { days ≡ days_of contents.now }
     requires most { days ≤ 400 }
-    ensures { IfOk result (λ found. found ≡ cond (has_calendar contents.now name.now) (Some (works contents.now name.now)) None) }
+    ensures { IfOk result
+        (λ found. found ≡ cond (has_calendar contents.now name.now)
+        (Some (works contents.now name.now)) None) }
 {
     let Some(name) = name else {
         return Ok(Some(Calendar::every(days)));

@@ -28,8 +28,12 @@ pub fn reply_to_change<B: PlanBook>(
     requires sound { is_sound_change change ≡ true }
     requires line { 1 ≤ line }
     requires most_lines { line ≤ 1000000 }
-    ensures ok { IfOk result (λ reply. Gives B.story B.faults B.basis terms book.old book.new user.now (to_make line change) reply) }
-    ensures err { IfErr result (λ why. Stops B.story B.faults B.basis terms book.old book.new user.now (to_make line change) why) }
+    ensures ok { IfOk result
+        (λ reply. Gives B.story B.faults B.basis terms book.old book.new user.now
+        (to_make line change) reply) }
+    ensures err { IfErr result
+        (λ why. Stops B.story B.faults B.basis terms book.old book.new user.now
+        (to_make line change) why) }
 {
     if !terms.may_change {
         return Ok(Reply::No(book.point(), Refusal::ReadOnly));

@@ -38,7 +38,8 @@ pub fn totals(
 /// A 0 for each day.
 fn zeros(alloc: Global, days: u16) -> Result<Vec<Qty>, AllocError>
     ensures days { IfOk result (λ sums. length sums.items ≡ days) }
-    ensures zeros { IfOk result (λ sums. (t : ℕ) → t < length sums.items → get_or sums.items t 0 ≡ 0) }
+    ensures zeros { IfOk result
+        (λ sums. (t : ℕ) → t < length sums.items → get_or sums.items t 0 ≡ 0) }
 {
     let mut sums = Vec::new(alloc);
     for _ in 0..days {
@@ -52,7 +53,8 @@ fn add_rows(sums: &mut [Qty], contents: &Contents, start: &Day, kind: Kind, part
     requires base { is_base contents.now ≡ true }
     requires zeros { (t : ℕ) → t < length sums.old → get_or sums.old t 0 ≡ 0 }
     ensures days { length sums.new ≡ length sums.old }
-    ensures each { (t : ℕ) → t < length sums.old → get_or sums.new t 0 ≡ total_on kind contents.now part.now start.now t }
+    ensures each { (t : ℕ) → t < length sums.old → get_or sums.new t 0
+        ≡ total_on kind contents.now part.now start.now t }
 {
     for (key, value) in contents.iter() {
         add_row(sums, start, kind, part, key, value);
@@ -64,7 +66,8 @@ fn add_row(sums: &mut [Qty], start: &Day, kind: Kind, part: &Name, key: &Key, va
     requires sound { is_sound_row key.now value.now ≡ true }
     requires room { (t : ℕ) → t < length sums.old → get_or sums.old t 0 ≤ 200000000000000 }
     ensures days { length sums.new ≡ length sums.old }
-    ensures each { (t : ℕ) → t < length sums.old → get_or sums.new t 0 ≡ get_or sums.old t 0 + total_on kind ((key.now, value.now) ∷ []) part.now start.now t }
+    ensures each { (t : ℕ) → t < length sums.old → get_or sums.new t 0 ≡ get_or sums.old t 0
+        + total_on kind ((key.now, value.now) ∷ []) part.now start.now t }
 {
     if let Some((day, qty)) = order_in(kind, part, key, value) {
         add(sums, start, &day, qty);
@@ -114,7 +117,8 @@ fn add(sums: &mut [Qty], start: &Day, day: &Day, qty: Qty)
     requires most { qty ≤ 1000000000 }
     requires room { (t : ℕ) → t < length sums.old → get_or sums.old t 0 ≤ 200000000000000 }
     ensures days { length sums.new ≡ length sums.old }
-    ensures each { (t : ℕ) → t < length sums.old → get_or sums.new t 0 ≡ get_or sums.old t 0 + cond (counts_on start.now day.now t) qty 0 }
+    ensures each { (t : ℕ) → t < length sums.old → get_or sums.new t 0 ≡ get_or sums.old t 0
+        + cond (counts_on start.now day.now t) qty 0 }
 {
     let place = day.number().saturating_sub(start.number()) as usize;
     if place < sums.len() {

@@ -65,7 +65,9 @@ fn plan_reply(alloc: Global, contents: &Contents, point: u64, part: &Name) -> Re
 /// A line for each day on which something is asked for, received, planned or released.
 fn plan_lines(alloc: Global, contents: &Contents, outcome: &Outcome) -> Result<Lines, AllocError>
     requires { is_base contents.now ≡ true }
-    ensures { IfOk result (λ lines. lines ≡ spec.plan_lines (start_of contents.now) (days_of contents.now) (told outcome.now)) }
+    ensures { IfOk result
+        (λ lines. lines ≡ spec.plan_lines (start_of contents.now) (days_of contents.now)
+        (told outcome.now)) }
 {
     let mut lines = Lines::new(alloc);
     let (start, days) = horizon_in(contents);

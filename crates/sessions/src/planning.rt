@@ -101,7 +101,9 @@ fn net_once<L: Ledger>(alloc: Global, input: &Input, blank: Blank) -> Result<Out
     ensures netted { IfOk result (λ o. Netted (given input.now) o.planned) }
     ensures outcome { IfOk result (λ o. told o ≡ outcome_from (given input.now) o.planned) }
     ensures fits { IfOk result (λ o. is_too_large (given input.now) o.planned ≡ false) }
-    ensures large { IfErr result (λ e. WhereLarge e ((p : List ℕ) → Netted (given input.now) p → IsTrue (is_too_large (given input.now) p))) }
+    ensures large { IfErr result
+        (λ e. WhereLarge e ((p : List ℕ) → Netted (given input.now) p
+        → IsTrue (is_too_large (given input.now) p))) }
 {
     let (book, share) = blank.open::<L>();
     let mut steps = Steps::new(book, share);

@@ -25,7 +25,8 @@ pub fn serve_alone<B: PlanBook, S: Source, K: Sink>(
 ) -> Served
     requires some { 1 ≤ session }
     requires most { session ≤ 16 }
-    ensures cause { Ending S.faults S.label K.faults K.label source.old source.new sink.old sink.new result }
+    ensures cause { Ending S.faults S.label K.faults K.label source.old source.new sink.old sink.new
+        result }
     ensures book { BookEnding B.faults B.basis book.old book.new result }
     ensures worn { result ≢ ends.Worn }
     ensures served { IsAlone (B.basis book.old).base (history (B.basis book.old) (B.story book.old)) → (input : List ℕ) → S.left source.old ≡ Some input

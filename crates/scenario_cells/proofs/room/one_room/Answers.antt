@@ -1,6 +1,6 @@
 use Rattle.std.proofs.Common.{◌∙◌, sym, ap, subst, ◌∷◌, [], length, ◌+◌}
 use Rattle.plan_schema.specs.Base.{part_count}
-use Rattle.std.specs.Prelude.{is_some, count_by}
+use Rattle.std.specs.Prelude.{is_some}
 use Rattle.scenario_rules.specs.World.{laid_over}
 use Rattle.scenario_cells.proofs.HeldLaws.{held_contents, contents_ordered, record_is, copied_some}
 use Rattle.scenario_cells.proofs.RoomLaws.{tally_next, tally_first}

@@ -1,6 +1,5 @@
 use Rattle.std.proofs.Common.{◌≤◌, sym, arith, length}
 use Rattle.plan_schema.specs.Base.{part_count}
-use Rattle.std.specs.Prelude.{count_by}
 use Rattle.scenario_rules.specs.World.{laid_over}
 use Rattle.scenario_rules.specs.Steps.{all_put}
 use Rattle.scenario_cells.proofs.HeldLaws.{held_contents, contents_ordered}

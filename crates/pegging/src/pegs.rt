@@ -129,7 +129,8 @@ pub fn peg(
     requires each { length (bills_in cell.now) ≤ length releases.now }
     requires rows { length cell.now ≤ RECORD_LIMIT }
     requires sound { are_sound_rows cell.now ≡ true }
-    requires fits { asked_of start.now at (demands_in cell.now) (bills_in cell.now) releases.now ≤ limit }
+    requires fits { asked_of start.now at (demands_in cell.now) (bills_in cell.now) releases.now
+        ≤ limit }
     ensures { IfOk result (λ pegs. map shown pegs ≡ pegs_by cell.now start.now at releases.now) }
 {
     let mut pegs = Series::new(alloc);

@@ -4,8 +4,7 @@ use Rattle.std.specs.Prelude.{Option, Some, None, filter, flat_map, is_some}
 use Rattle.std.specs.List.{cons_option, AllByRecursion, list_all}
 use Rattle.record_versions.specs.declared.version.VersionId.{VersionId}
 use Rattle.std.specs.Ordering.{is_lt, is_eq, ordering_then}
-use Rattle.std.specs.declared.cmp.Ordering.{Ordering}
-use Rattle.std.specs.declared.cmp.Ordering.TheVariants.{Less, Equal, Greater}
+use Rattle.std.specs.declared.cmp.Ordering.TheVariants.{Equal}
 use Rattle.std.specs.Cmp.{tied_itself}
 use Rattle.std.specs.Cmp.Lexicographic.{nat_list_cmp_total}
 use Rattle.std.specs.FinMap.Entries.{below_all}
@@ -19,8 +18,8 @@ use Rattle.plan_schema.specs.declared.key.Key.{Key}
 use Rattle.plan_schema.specs.declared.key.Key.TheVariants as keys
 use Rattle.plan_schema.specs.declared.key.Record.{Record}
 use Rattle.plan_schema.specs.Key.{key_cmp, cell_of}
-use Rattle.plan_schema.specs.Cell.{cell_cmp, cell_eq, cell_name}
-use Rattle.plan_jobs.specs.Jobs.{by_name, are_ascending}
+use Rattle.plan_schema.specs.Cell.{cell_eq, cell_name}
+use Rattle.plan_jobs.proofs.Rows.{eq_turned}
 use Rattle.plan_schema.specs.Contents.{Contents, is_ordered, record_at, cell_rows}
 use Rattle.planning_rules.specs.Plan.{Known}
 use Rattle.query_language.specs.declared.column.Column.{Column}
@@ -135,23 +134,13 @@ selected_rows plans c query (n ∷ ns) = by_case (is_selected plans c query.cond
 cell_known : Contents → Cells → Type 0
 cell_known c cells = AllByRecursion (λ cell. cell_rows c cell.0.cell ≡ cell.1) cells
 
-flip : (a b : CellName) → cell_eq a b ≡ false → cell_eq b a ≡ false
-flip a b h = by_case (cell_eq b a) refl
-  where
-    by_case : (t : Bool) → cell_eq b a ≡ t → cell_eq b a ≡ false
-    by_case false e = e
-    by_case true e =
-        let one : b ≡ a = one_cell b a e in
-        let never : true ≡ false = sym e ∙ ap (λ x. cell_eq x a) one ∙ sym (ap (λ x. cell_eq a x) one) ∙ h in
-        cc
-
-unfolding_known : (c d : Contents) (first : CellName) (rows : Contents) (cells : Cells) → are_own_rows first rows ≡ true → AllByRecursion (λ other. cell_eq other.0.cell first ≡ false) cells
+known_later : (c d : Contents) (first : CellName) (rows : Contents) (cells : Cells) → are_own_rows first rows ≡ true → AllByRecursion (λ other. cell_eq other.0.cell first ≡ false) cells
     → c ≡ rows ++ d → cell_known d cells → cell_known c cells
 unfolding cell_known
-unfolding_known c d first rows [] own apart is known = tt
-unfolding_known c d first rows (cell ∷ cells) own apart is known = (
-  ap (λ x. cell_rows x cell.0.cell) is ∙ rows_append rows d cell.0.cell ∙ (λ i. own_none rows first cell.0.cell own (flip cell.0.cell first apart.0) i ++ known.0 i),
-  unfolding_known c d first rows cells own apart.1 is known.1,
+known_later c d first rows [] own apart is known = tt
+known_later c d first rows (cell ∷ cells) own apart is known = (
+  ap (λ x. cell_rows x cell.0.cell) is ∙ rows_append rows d cell.0.cell ∙ (λ i. own_none rows first cell.0.cell own (eq_turned cell.0.cell first ∙ apart.0) i ++ known.0 i),
+  known_later c d first rows cells own apart.1 is known.1,
 )
 
 known_cells : (cells : Cells) → are_own_cells cells ≡ true → AreApart cells → cell_known (records cells) cells
@@ -160,7 +149,7 @@ known_cells [] own apart = tt
 known_cells (cell ∷ cells) own apart =
     let two = and_parts (are_own_rows cell.0.cell cell.1) (are_own_cells cells) own in (
       rows_append cell.1 (records cells) cell.0.cell ∙ (λ i. own_all cell.1 cell.0.cell two.0 i ++ none_of cells cell.0.cell two.1 apart.0 i) ∙ append_none cell.1,
-      unfolding_known (records (cell ∷ cells)) (records cells) cell.0.cell cell.1 cells two.0 apart.0 refl (known_cells cells two.1 apart.1),
+      known_later (records (cell ∷ cells)) (records cells) cell.0.cell cell.1 cells two.0 apart.0 refl (known_cells cells two.1 apart.1),
     )
 
 -- the rows of one cell's parts, from its own rows
@@ -195,26 +184,6 @@ over_cells plans c query (cell ∷ cells) own known =
 pub rows_are_selected : (plans : Name → Option Known) (query : QueryTree) (cells : Cells) → are_own_cells cells ≡ true → AreApart cells → rows_over plans query cells ≡ selected_from plans (records cells) query
 rows_are_selected plans query cells own apart =
     over_cells plans (records cells) query cells own (known_cells cells own apart) ∙ sym (selected_rows plans (records cells) query (parts_of (records cells)))
-
--- cells in the order of their names -------------------------------------------------------------------------------------------------
-
-less_apart : (o : Ordering) → is_lt o ≡ true → is_eq o ≡ false
-less_apart Less h = refl
-less_apart Equal h = cc
-less_apart Greater h = cc
-
--- no two have one name
-pub apart : (cells : Cells) → are_ascending cells ≡ true → AreApart cells
-apart [] h = tt
-apart (cell ∷ cells) h =
-    let two = and_parts (below_all cell_cmp cell.0.cell (by_name cells)) (are_ascending cells) h in
-    (each cells two.0, apart cells two.1)
-  where
-    each : (others : Cells) → below_all cell_cmp cell.0.cell (by_name others) ≡ true → AllByRecursion (λ other. cell_eq other.0.cell cell.0.cell ≡ false) others
-    each [] h = tt
-    each (other ∷ others) h =
-        let two = and_parts (is_lt (cell_cmp cell.0.cell other.0.cell)) (below_all cell_cmp cell.0.cell (by_name others)) h in
-        (flip cell.0.cell other.0.cell (less_apart (cell_cmp cell.0.cell other.0.cell) two.0), each others two.1)
 
 -- one cell ------------------------------------------------------------------------------------------------------------------------
 

@@ -13,7 +13,8 @@ use std::cmp::Ordering;
 
 /// Whether a query selects a part. Without a condition it selects each.
 pub fn is_selected(cond: &Option<Cond>, part: &Part<'_>) -> bool
-    ensures { result ≡ is_selected_with (values_of part.now) part.now.name.now (option_map cond_tree cond.now) }
+    ensures { result
+        ≡ is_selected_with (values_of part.now) part.now.name.now (option_map cond_tree cond.now) }
 {
     match cond {
         None => true,
@@ -36,7 +37,8 @@ fn meets(cond: &Cond, part: &Part<'_>) -> bool
 
 /// Whether a part has a name, or, with false, another.
 fn is_named(part: &Name, name: &Name, equal: bool) -> bool
-    ensures { result ≡ (if equal then name_eq part.now name.now else not (name_eq part.now name.now)) }
+    ensures { result
+        ≡ (if equal then name_eq part.now name.now else not (name_eq part.now name.now)) }
 {
     matches!(part.cmp(name), Ordering::Equal) == equal
 }

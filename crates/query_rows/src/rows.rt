@@ -129,7 +129,8 @@ fn lines_over<P: Plans>(
 pub fn rows_still(alloc: Global, query: &Query, job: &Job) -> Result<Lines, AllocError>
     requires still { asks_for_plan (query_tree query.now) ≡ false }
     requires own { are_own_cells job.now.cells ≡ true }
-    ensures { IfOk result (λ lines. lines ≡ select_lines (records job.now.cells) (query_tree query.now)) }
+    ensures { IfOk result (λ lines. lines
+        ≡ select_lines (records job.now.cells) (query_tree query.now)) }
 {
     lines_over(alloc, query, job.cells.as_slice(), &NoPlans)
 }

@@ -1,0 +1,6 @@
+pub mod Places
+pub mod Waiting
+pub mod Nodes
+pub mod LookUps
+pub mod Results
+pub mod Settled

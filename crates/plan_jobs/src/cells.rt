@@ -1,0 +1,67 @@
+//! The cells that a job holds.
+ghost use Rattle.std.specs.Prelude.{◌≡◌, ◌==◌, true, length};
+ghost use Rattle.std.specs.Option.{option_map};
+ghost use Rattle.std.specs.List.{slice_get};
+ghost use Rattle.record_versions.specs.Shown.{cells_of};
+ghost use Rattle.walk_rules.specs.Cells.{held};
+ghost use Rattle.plan_jobs.specs.Jobs.{are_ascending, shown_cell};
+
+use plan_schema::CellName;
+use record_versions::{Cell, VersionId};
+use std::marker::Model;
+use std::sync::Arc;
+
+/// Cells under their versions, in the order of the cells' names: the horizon's, those of calendars, those of parts, each by name. The
+/// cells are shared with the store that they come from. Contracts see the list of versions and rows.
+#[derive(Drop)]
+pub struct CellList {
+    cells: Vec<(VersionId, Arc<Cell>)>,
+}
+
+impl Model for CellList {
+    ghost use Rattle.std.specs.Prelude.{◌≡◌, true};
+    ghost use Rattle.record_versions.specs.Shown.{cells_of};
+    ghost use Rattle.walk_rules.specs.Cells.{Cells};
+    ghost use Rattle.plan_jobs.specs.Jobs.{are_ascending};
+
+    ghost Value = { Cells };
+
+    ghost view = { λ list. cells_of list.cells.items };
+
+    ghost invariant = { λ list. are_ascending (cells_of list.cells.items) ≡ true };
+}
+
+impl CellList {
+    /// How many cells there are.
+    pub fn len(&self) -> usize
+        ensures count { result ≡ length self.now }
+        ensures ascending { are_ascending self.now ≡ true }
+    {
+        self.cells.len()
+    }
+
+    /// Whether there are no cells.
+    pub fn is_empty(&self) -> bool
+        ensures { result ≡ (length self.now == 0) }
+    {
+        self.cells.is_empty()
+    }
+
+    /// The cells as a slice.
+    pub fn as_slice(&self) -> &[(VersionId, Arc<Cell>)]
+        ensures cells { cells_of result.now ≡ self.now }
+        ensures ascending { are_ascending self.now ≡ true }
+    {
+        self.cells.as_slice()
+    }
+
+    /// The cell at a place in the order of the names, from 0, and its version.
+    pub fn at(&self, place: usize) -> Option<(&VersionId, &Cell)>
+        ensures { option_map shown_cell result ≡ slice_get self.now place }
+    {
+        match self.cells.get(place) {
+            Some((id, cell)) => Some((id, cell)),
+            None => None,
+        }
+    }
+}

@@ -4,3 +4,5 @@ pub mod Nodes
 pub mod LookUps
 pub mod Results
 pub mod Settled
+pub mod View
+pub mod Walk

@@ -110,7 +110,7 @@ pub fn take_hits(
 ) -> Result<u64, AllocError>
     requires graph { IsGraph nodes.now }
     requires whole { length known.old ≡ length nodes.now }
-    requires few { length nodes.now < 2 ^ 32 }
+    requires few { length nodes.now < 2 ^ 63 }
     requires inside { (q : ℕ) → waits waiting q ≡ true → q < length nodes.now }
     requires all { (q : ℕ) → ready_at (ups_at nodes.now q) (shown known.old) q ≡ true → q < length nodes.now → waits waiting q ≡ true }
     requires empty { front.old.items ≡ [] }

@@ -1,4 +1,4 @@
-//! A walk over a plan.
+//! A walk over a plan: what is known of the parts that a question asks about, what the memo holds of them, and what is to be netted.
 #![tactic(auto)]
 
 mod hits;
@@ -6,6 +6,10 @@ mod node;
 mod results;
 mod round;
 mod settle;
+mod solved;
 mod waiting;
+mod walk;
 
 pub use round::{Round, Tally};
+pub use solved::Solved;
+pub use walk::Walk;

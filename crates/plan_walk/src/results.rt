@@ -57,7 +57,7 @@ pub fn take_in_all(
 ) -> Result<u64, AllocError>
     requires graph { IsGraph nodes.now }
     requires whole { length known.old ≡ length nodes.now }
-    requires few { length nodes.now < 2 ^ 32 }
+    requires few { length nodes.now < 2 ^ 63 }
     requires ready { (k place : ℕ) → slice_get front.now k ≡ Some place → (place < length nodes.now) × (ready_at (ups_at nodes.now place) (shown known.old) place ≡ true) }
     requires names { names_at (node_names nodes.now) front.now ≡ map (λ r. r.0) (told solved.now) }
     ensures some { (done : ℕ) × (dropped : ℕ) × TakenIn plan.now nodes.now (shown known.old) (shown known.new) memo.old.pairs memo.new.pairs memo.old.most (told solved.now) done dropped }
@@ -99,7 +99,7 @@ pub fn take_results(
 ) -> Result<u64, AllocError>
     requires graph { IsGraph nodes.now }
     requires whole { length known.old ≡ length nodes.now }
-    requires few { length nodes.now < 2 ^ 32 }
+    requires few { length nodes.now < 2 ^ 63 }
     requires ready { (k place : ℕ) → slice_get front.now k ≡ Some place → (place < length nodes.now) × (ready_at (ups_at nodes.now place) (shown known.old) place ≡ true) }
     requires exact { (q : ℕ) → q < length nodes.now → ready_at (ups_at nodes.now q) (shown known.old) q ≡ true → list_any (λ k. k == q) front.now ≡ true }
     requires names { (told solved.now ≡ []) ⊎ (names_at (node_names nodes.now) front.now ≡ map (λ r. r.0) (told solved.now)) }

@@ -6,3 +6,4 @@ pub mod Results
 pub mod Settled
 pub mod View
 pub mod Walk
+pub mod FrontSteps

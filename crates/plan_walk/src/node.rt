@@ -67,6 +67,25 @@ pub fn is_ready_at(known: &[Option<Arc<Known>>], node: &Node, place: usize) -> b
     value_at(known, place).is_none() && all_have_outcomes(known, node.ups.as_slice())
 }
 
+/// What the parts at some places release, which all have outcomes.
+pub fn releases_at(
+    alloc: Global,
+    known: &[Option<Arc<Known>>],
+    places: &[usize],
+) -> Result<Vec<Release>, AllocError>
+    requires { list_all (λ q. has_outcome (known_in (shown known.now) q)) places.now ≡ true }
+    ensures { IfOk result (λ releases. releases.items ≡ lists_at (shown known.now) places.now) }
+{
+    let mut releases = Vec::with_capacity(alloc, places.len())?;
+    for place in places {
+        let Some(release) = release_at(known, *place) else {
+            unreachable!()
+        };
+        releases.push(release.share()?)?;
+    }
+    Ok(releases)
+}
+
 /// The memo's key of a part whose parents all have outcomes.
 pub fn key_at(
     alloc: Global,
@@ -77,13 +96,7 @@ pub fn key_at(
     requires { list_all (λ q. has_outcome (known_in (shown known.now) q)) node.now.ups.items ≡ true }
     ensures { IfOk result (λ key. key ≡ node_key plan.now node.now (lists_at (shown known.now) node.now.ups.items)) }
 {
-    let mut releases = Vec::with_capacity(alloc, node.ups.len())?;
-    for place in &node.ups {
-        let Some(release) = release_at(known, *place) else {
-            unreachable!()
-        };
-        releases.push(release.share()?)?;
-    }
+    let releases = releases_at(alloc, known, node.ups.as_slice())?;
     Ok(MemoKey {
         part: node.part,
         calendar: node.calendar,

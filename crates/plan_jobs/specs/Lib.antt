@@ -1,1 +1,4 @@
 pub mod Jobs
+pub mod Collects
+pub mod Names
+pub mod Laws

@@ -1,5 +1,5 @@
 //! The cells that a job holds.
-ghost use Rattle.std.specs.Prelude.{◌≡◌, ◌==◌, true, length};
+ghost use Rattle.std.specs.Prelude.{◌≡◌, ◌==◌, true, length, None, MatchOption};
 ghost use Rattle.std.specs.Option.{option_map};
 ghost use Rattle.std.specs.List.{slice_get};
 ghost use Rattle.record_versions.specs.Shown.{cells_of};
@@ -32,6 +32,14 @@ impl Model for CellList {
 }
 
 impl CellList {
+    /// These cells, which stand in the order of their names.
+    pub(crate) fn of(cells: Vec<(VersionId, Arc<Cell>)>) -> CellList
+        requires { are_ascending (cells_of cells.items) ≡ true }
+        ensures { result ≡ cells_of cells.items }
+    {
+        CellList { cells }
+    }
+
     /// How many cells there are.
     pub fn len(&self) -> usize
         ensures count { result ≡ length self.now }
@@ -64,4 +72,21 @@ impl CellList {
             None => None,
         }
     }
+
+    /// The cell of a name, and its version.
+    pub fn get(&self, name: &CellName) -> Option<(&VersionId, &Cell)>
+        ensures { option_map shown_cell result ≡ held self.now name.now }
+    {
+        let place = place_of(&self.cells, name)?;
+        self.at(place)
+    }
+}
+
+/// The place of a cell among cells in the order of their names.
+fn place_of(cells: &[(VersionId, Arc<Cell>)], name: &CellName) -> Option<usize>
+    requires { are_ascending (cells_of cells.now) ≡ true }
+    ensures { MatchOption result (held (cells_of cells.now) name.now ≡ None)
+        (λ place. slice_get (cells_of cells.now) place ≡ held (cells_of cells.now) name.now) }
+{
+    cells.binary_search_by_key(name, |cell| cell.0.cell).ok()
 }

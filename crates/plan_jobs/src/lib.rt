@@ -2,7 +2,10 @@
 #![tactic(auto)]
 
 mod cells;
+mod gather;
 mod job;
+mod names;
 
 pub use cells::CellList;
+pub use gather::collect;
 pub use job::{Job, Wanted};

@@ -2,6 +2,7 @@
 use Rattle.std.proofs.Common.{◌≡◌, ℕ, zero, suc, ◌+◌, ◌<◌, ◌≤◌, List, [], ◌∷◌, ◌++◌, length, map, take, get_or, refl, sym, ◌∙◌, ap, subst, arith, Bool, true, false, cond}
 use Rattle.std.specs.Prelude.{Option, Some, None, slice_get, slice_index, option_map, unwrap_or}
 use Rattle.std.specs.List.{AllByRecursion, list_all, filter_map, cons_option}
+use Rattle.std.specs.declared.sync.Arc.{Arc}
 use Rattle.plan_schema.specs.declared.name.Name.{Name}
 use Rattle.planning_rules.specs.Bills.{bills_of, parents}
 use Rattle.planning_rules.specs.Days.{days_of}
@@ -19,6 +20,7 @@ use Rattle.plan_walk.specs.declared.node.Node.{Node}
 use Rattle.plan_walk.specs.Places.{parts_of, known_in, StandAt, lists_at}
 use Rattle.plan_walk.specs.Nodes.{node_names, names_at, ups_at}
 use Rattle.plan_walk.specs.Walk.{CanStep, IsWalk}
+use Rattle.plan_walk.specs.Results.{told}
 use Rattle.plan_walk.specs.FrontSteps.{AtFront, AreAtFront, AreNetted}
 use Rattle.plan_walk.proofs.Places.{each_at, outcomes_place, lists_place}
 use Rattle.plan_walk.proofs.SoFar.{names_long, name_there, ups_there}
@@ -101,3 +103,8 @@ net_more cells parts names i results more first steps next n known s at is joine
       };
       counted = omega arith;
     }
+
+module _ {Z : Type 0} where
+  pub told_more : (xs : List (Name × Arc Known Z)) (n : Name) (a : Arc Known Z) (known : Known) → a.value ≡ known → told (xs ++ (n, a) ∷ []) ≡ told xs ++ (n, known) ∷ []
+  told_more [] n a known e = ap (λ (x : Known). (n, x) ∷ []) e
+  told_more (x ∷ xs) n a known e = ap (λ rs. (x.0, x.1.value) ∷ rs) (told_more xs n a known e)

@@ -3,6 +3,9 @@ use Rattle.std.proofs.Common.{◌≡◌, ℕ, ◌+◌, ◌≤◌, List, [], ◌�
 use Rattle.std.proofs.lemmas.Bool.{and_parts}
 use Rattle.std.specs.Prelude.{Option, Some, None, is_some}
 use Rattle.std.specs.List.{list_all}
+use Rattle.std.proofs.lemmas.List.FromFn.{length-map-range_with_len}
+use Rattle.plan_schema.specs.declared.name.Name.{Name}
+use Rattle.planning_rules.specs.Days.{start_of, days_of, works, works_by}
 use Rattle.plan_schema.specs.declared.change.CellName.{CellName}
 use Rattle.plan_schema.specs.declared.change.CellName.TheVariants as names
 use Rattle.plan_schema.specs.declared.key.Key.{Key}
@@ -107,3 +110,8 @@ plan_there ((keys.Stock a, v) ∷ rows) h own = cc
 plan_there ((keys.Demand a b, v) ∷ rows) h own = cc
 plan_there ((keys.Receipt a b, v) ∷ rows) h own = cc
 plan_there ((keys.Bill a b, v) ∷ rows) h own = cc
+
+-- a calendar has as many days as the horizon
+pub works_length : (c : Contents) (calendar : Option Name) → length (works c calendar) ≡ days_of c
+works_length c None = length-map-range_with_len (λ t. true) 0 (days_of c)
+works_length c (Some name) = length-map-range_with_len (λ t. works_by c name (record_at c (keys.Cal name)) (start_of c + t)) 0 (days_of c)

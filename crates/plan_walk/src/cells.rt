@@ -58,7 +58,11 @@ fn working_days(
 {
     match named {
         None => Ok(Calendar::every(days)),
-        Some(name) => calendar(alloc, cell_in(&job.cells, &CellName::Cal(name)), &name, start, days),
+        Some(name) => {
+            let cell = cell_in(&job.cells, &CellName::Cal(name));
+            let working = calendar(alloc, cell, &name, start, days)?;
+            Ok(working)
+        }
     }
 }
 
@@ -77,8 +81,10 @@ pub fn net_part<L: Ledger>(
     ensures known { IfOk result (λ known. step_from (records job.now.cells) name.now releases.now ≡ Some known) }
     ensures steps { OnOk result (steps.new ≡ steps.old + 1) }
 {
-    let (start, days) = horizon(cell_in(&job.cells, &CellName::Plan));
+    let plan = cell_in(&job.cells, &CellName::Plan);
+    let (start, days) = horizon(plan);
     let part = cell_in(&job.cells, &CellName::Part(*name));
     let working = working_days(alloc, job, calendar_named(part, name), &start, days)?;
-    step(alloc, part, name, &start, days, working, releases, steps)
+    let known = step(alloc, part, name, &start, days, working, releases, steps)?;
+    Ok(known)
 }

@@ -1,18 +1,20 @@
 //! A walk over a plan.
-ghost use Rattle.std.specs.Prelude.{◌≡◌, ◌+◌, ℕ, List, [], true, length, map, Some, IfOk, OnOk};
+ghost use Rattle.std.specs.Prelude.{◌≡◌, ◌==◌, ◌+◌, ℕ, List, [], true, length, map, Some, IfOk, OnOk, MatchOption, slice_get};
+ghost use Rattle.std.specs.Option.{option_copied};
 ghost use Rattle.plan_schema.specs.declared.name.Name.{Name};
 ghost use Rattle.version_rules.specs.Meaning.{Meaning};
 ghost use Rattle.walk_rules.specs.Cells.{Stands};
 ghost use Rattle.walk_rules.specs.Memo.{MemoRight};
-ghost use Rattle.plan_walk.specs.Nodes.{names_at};
+ghost use Rattle.walk_rules.specs.Walks.{known_at};
+ghost use Rattle.plan_walk.specs.Nodes.{node_names, names_at};
 ghost use Rattle.plan_walk.specs.Walk.{IsOpen, IsSolved, Settles, EndsSettled, round_of};
 
-use crate::node::Node;
+use crate::node::{Node, value_at};
 use crate::round::{Round, Tally};
 use crate::settle::settle_parts;
 use crate::solved::Solved;
 use plan_jobs::Job;
-use plan_schema::Known;
+use plan_schema::{Known, Name};
 use record_versions::VersionId;
 use shared_memo::Memo;
 use std::alloc::{AllocError, Global};
@@ -79,6 +81,65 @@ impl Walk {
         self.front = next;
         Ok((round, tally))
     }
+
+    /// The question that the walk is for, with its cells.
+    pub fn job(&self) -> &Job
+        ensures { result.now ≡ self.now.job }
+    {
+        &self.job
+    }
+
+    /// How many parts the walk has.
+    pub fn len(&self) -> usize
+        ensures { result ≡ length self.now.parts }
+    {
+        self.nodes.len()
+    }
+
+    /// Whether the walk has no parts.
+    pub fn is_empty(&self) -> bool
+        ensures { result ≡ (length self.now.parts == 0) }
+    {
+        self.nodes.is_empty()
+    }
+
+    /// How many parts are to be netted next.
+    pub fn frontier_len(&self) -> usize
+        ensures { result ≡ length self.now.front }
+    {
+        self.front.len()
+    }
+
+    /// The part that is to be netted at a place of the frontier, from 0.
+    pub fn frontier_at(&self, place: usize) -> Option<&Name>
+        ensures { option_copied result ≡ slice_get self.now.front place }
+    {
+        let at = *self.front.get(place)?;
+        Some(&self.nodes[at].name)
+    }
+
+    /// What is known of a part. It goes over all parts.
+    pub fn known(&self, name: &Name) -> Option<&Known>
+        ensures { option_copied result ≡ known_at self.now.parts name.now }
+    {
+        match place_of(self.nodes.as_slice(), name) {
+            Some(place) => value_at(self.known.as_slice(), place),
+            None => None,
+        }
+    }
+}
+
+/// The place of a name among those of nodes.
+fn place_of(nodes: &[Node], name: &Name) -> Option<usize>
+    ensures { MatchOption result ((k : ℕ) → slice_get (node_names nodes.now) k ≡ Some name.now → ⊥)
+        (λ place. slice_get (node_names nodes.now) place ≡ Some name.now) }
+{
+    for (place, node) in nodes.iter().enumerate() {
+        if node.name == *name {
+            return Some(place);
+        }
+    }
+    None
 }
 
 /// Whether a walk with this frontier is at its end.

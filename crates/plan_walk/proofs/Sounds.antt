@@ -18,7 +18,7 @@ use Rattle.plan_walk.specs.Nodes.{node_names, names_at}
 use Rattle.plan_walk.specs.Settled.{AreSound}
 use Rattle.plan_walk.specs.View.{View}
 use Rattle.plan_walk.specs.Walk.{CanStep, IsWalk, IsSolved}
-use Rattle.plan_walk.proofs.JobRows.{apart}
+use Rattle.plan_jobs.proofs.Rows.{apart}
 use Rattle.plan_walk.proofs.Places.{names_place}
 use Rattle.plan_walk.proofs.SoFar.{names_long}
 

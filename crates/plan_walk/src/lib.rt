@@ -16,3 +16,4 @@ pub use frontier::solve;
 pub use round::{Round, Tally};
 pub use solved::Solved;
 pub use walk::Walk;
+pub use walk_names::Trouble;

@@ -6,10 +6,10 @@ use Rattle.std.specs.declared.cmp.Ordering.{Ordering}
 use Rattle.std.specs.declared.cmp.Ordering.TheVariants.{Less, Equal, Greater}
 use Rattle.std.specs.Cmp.Lexicographic.{nat_list_cmp_total}
 use Rattle.plan_schema.specs.declared.name.Name.{Name}
-use Rattle.plan_schema.specs.Key.{name_cmp, name_eq}
+use Rattle.plan_schema.specs.Key.{name_cmp}
 use Rattle.planning_rules.specs.Refused.{least_name}
 use Rattle.planning_rules.specs.Laws.{IsLeastPassing, IsLeastOf}
-use Rattle.planning_rules.proofs.Membership.{IsIn, in_contained, contained_in}
+use Rattle.planning_rules.proofs.Membership.{IsIn, contained_in}
 use Rattle.planning_rules.proofs.LevelLaws.{one_name}
 use Rattle.planning_rules.proofs.LeastNames.{least_name_is_least, least_found, found_passes}
 

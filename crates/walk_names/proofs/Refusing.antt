@@ -1,8 +1,8 @@
 -- The first refusal from names that are closed upward.
-use Rattle.std.proofs.Common.{◌≡◌, ℕ, ◌⊎◌, inl, inr, List, [], ◌∷◌, map, refl, sym, ◌∙◌, ap, subst, Bool, true, false, not, ◌&&◌, ◌||◌, ◌==◌}
+use Rattle.std.proofs.Common.{◌≡◌, ℕ, inl, inr, List, [], ◌∷◌, map, refl, sym, ◌∙◌, ap, Bool, true, not, ◌&&◌, ◌||◌, ◌==◌}
 use Rattle.std.proofs.lemmas.Bool.{and_parts}
-use Rattle.std.specs.Prelude.{Option, Some, None, is_some, unwrap_or, nat_lt, filter_map, Contains}
-use Rattle.std.specs.List.{list_any, list_all, AllByRecursion}
+use Rattle.std.specs.Prelude.{Option, Some, None, is_some, unwrap_or, nat_lt, filter_map}
+use Rattle.std.specs.List.{list_all, AllByRecursion}
 use Rattle.std.specs.Ordering.{is_lt}
 use Rattle.plan_schema.specs.declared.name.Name.{Name}
 use Rattle.plan_schema.specs.declared.key.Key.TheVariants as keys
@@ -35,18 +35,18 @@ module _ (c : Contents) (asked : List Name) where
 
   pub first_refused : (name : Name) → least_name no_part asked ≡ Some name → first_four c asked ≡ Some (refusals.NoPart name)
   first_refused name e = λ i.
-    first_of (about (e i) refusals.NoPart ∷ about (least_name no_part (in_reach c asked)) refusals.MissingPart ∷ about (least_name no_calendar (in_reach c asked)) refusals.MissingCalendar
-    ∷ about (least_name (is_cyclic c) (in_reach c asked)) refusals.Cyclic ∷ [])
+      first_of (about (e i) refusals.NoPart ∷ about (least_name no_part (in_reach c asked)) refusals.MissingPart ∷ about (least_name no_calendar (in_reach c asked)) refusals.MissingCalendar
+      ∷ about (least_name (is_cyclic c) (in_reach c asked)) refusals.Cyclic ∷ [])
 
   pub second_refused : (name : Name) → least_name no_part asked ≡ None → least_name no_part (in_reach c asked) ≡ Some name → first_four c asked ≡ Some (refusals.MissingPart name)
   second_refused name a e = λ i.
-    first_of (about (a i) refusals.NoPart ∷ about (e i) refusals.MissingPart ∷ about (least_name no_calendar (in_reach c asked)) refusals.MissingCalendar
-    ∷ about (least_name (is_cyclic c) (in_reach c asked)) refusals.Cyclic ∷ [])
+      first_of (about (a i) refusals.NoPart ∷ about (e i) refusals.MissingPart ∷ about (least_name no_calendar (in_reach c asked)) refusals.MissingCalendar
+      ∷ about (least_name (is_cyclic c) (in_reach c asked)) refusals.Cyclic ∷ [])
 
   pub third_refused : (name : Name) → least_name no_part asked ≡ None → least_name no_part (in_reach c asked) ≡ None → least_name no_calendar (in_reach c asked) ≡ Some name
       → first_four c asked ≡ Some (refusals.MissingCalendar name)
   third_refused name a b e = λ i.
-    first_of (about (a i) refusals.NoPart ∷ about (b i) refusals.MissingPart ∷ about (e i) refusals.MissingCalendar ∷ about (least_name (is_cyclic c) (in_reach c asked)) refusals.Cyclic ∷ [])
+      first_of (about (a i) refusals.NoPart ∷ about (b i) refusals.MissingPart ∷ about (e i) refusals.MissingCalendar ∷ about (least_name (is_cyclic c) (in_reach c asked)) refusals.Cyclic ∷ [])
 
   fourth : (o : Option Name) → least_name no_part asked ≡ None → least_name no_part (in_reach c asked) ≡ None → least_name no_calendar (in_reach c asked) ≡ None → least_name (is_cyclic c) (in_reach c asked) ≡ o
       → first_four c asked ≡ first_of (about o refusals.Cyclic ∷ [])
@@ -55,15 +55,15 @@ module _ (c : Contents) (asked : List Name) where
   module _ (closed : List Name) (is : IsClosure (filter_map bill_pair c) asked closed) where
     closed_in : (n : Name) → IsIn n closed → IsIn n (in_reach c asked)
     closed_in n i = elim ((is.members n).0 (contained_in closed n i)) [
-        | inl h ↦ asked_reached c asked n (in_contained asked n h)
-        | inr h ↦ let w = which (λ m. is_ancestor (as_records (filter_map bill_pair c)) m n) asked h in ancestor_reached c asked w.0 n w.1 (sym (ancestor_same c w.0 n) ∙ w.2)
-      ]
+      | inl h ↦ asked_reached c asked n (in_contained asked n h)
+      | inr h ↦ let w = which (λ m. is_ancestor (as_records (filter_map bill_pair c)) m n) asked h in ancestor_reached c asked w.0 n w.1 (sym (ancestor_same c w.0 n) ∙ w.2)
+    ]
 
     in_closed : (n : Name) → IsIn n (in_reach c asked) → IsIn n closed
     in_closed n i = in_contained closed n ((is.members n).1 (elim (reached_which c asked n i) [
-        | inl h ↦ inl (contained_in asked n h)
-        | inr w ↦ inr (any_in (λ m. is_ancestor (as_records (filter_map bill_pair c)) m n) w.0 asked w.1 (ancestor_same c w.0 n ∙ w.2))
-      ]))
+      | inl h ↦ inl (contained_in asked n h)
+      | inr w ↦ inr (any_in (λ m. is_ancestor (as_records (filter_map bill_pair c)) m n) w.0 asked w.1 (ancestor_same c w.0 n ∙ w.2))
+    ]))
 
     -- the least of them is the least in reach
     pub reach_least : (test : Name → Bool) → least_name test closed ≡ least_name test (in_reach c asked)

@@ -1,6 +1,6 @@
 -- The bills alone give the same parents, ancestors and levels.
-use Rattle.std.proofs.Common.{◌≡◌, ℕ, zero, suc, ◌+◌, ◌≤◌, List, [], ◌∷◌, length, map, refl, sym, ◌∙◌, ap, subst, arith, Bool, true, false, cond, ◌||◌}
-use Rattle.std.specs.Prelude.{Option, Some, None}
+use Rattle.std.proofs.Common.{◌≡◌, ℕ, zero, suc, ◌+◌, ◌≤◌, List, [], ◌∷◌, map, refl, sym, ◌∙◌, ap, arith, Bool, true, false, cond, ◌||◌}
+use Rattle.std.specs.Prelude.{Some, None}
 use Rattle.std.specs.List.{list_any, filter_map, cons_option}
 use Rattle.plan_schema.specs.declared.name.Name.{Name}
 use Rattle.plan_schema.specs.declared.key.Key.{Key}
@@ -21,9 +21,8 @@ one_row n (keys.Bill p m, records.Bill per span) bs c e =
     let one : ParentBill = record { parent = p; per = 1; span = None } in
     let two : ParentBill = record { parent = p; per = per; span = span } in
     elim (name_eq m n) as (λ b. map (λ (bill : ParentBill). bill.parent) (cons_option (cond b (Some one) None) (filter_map (bill_in n) (as_records bs)))
-        ≡ map (λ (bill : ParentBill). bill.parent) (cons_option (cond b (Some two) None) (filter_map (bill_in n) c))) [ true ↦ ap (λ ps. p ∷ ps) e | false ↦ e ]
+    ≡ map (λ (bill : ParentBill). bill.parent) (cons_option (cond b (Some two) None) (filter_map (bill_in n) c))) [ true ↦ ap (λ ps. p ∷ ps) e | false ↦ e ]
 one_row n _ bs c e = e
-
 
 pub parents_same : (c : Contents) (n : Name) → parents (as_records (filter_map bill_pair c)) n ≡ parents c n
 parents_same [] n = refl
@@ -46,8 +45,8 @@ pub ancestor_same : (c : Contents) (n a : Name) → is_ancestor (as_records (fil
 ancestor_same c n a =
     let b = as_records (filter_map bill_pair c) in
     same_bools (is_ancestor b n a) (is_ancestor c n a)
-      (λ h. chains_are_short c n a (longest_chain b) (sym (above_same c (longest_chain b) n a) ∙ h))
-      (λ h. chains_are_short b n a (longest_chain c) (above_same c (longest_chain c) n a ∙ h))
+    (λ h. chains_are_short c n a (longest_chain b) (sym (above_same c (longest_chain b) n a) ∙ h))
+    (λ h. chains_are_short b n a (longest_chain c) (above_same c (longest_chain c) n a ∙ h))
 
 pub level_same : (c : Contents) (n : Name) → level (as_records (filter_map bill_pair c)) n ≡ level c n
 level_same c n =

@@ -24,11 +24,7 @@ fn without_levels(alloc: Global, levels: &[(Name, usize)]) -> Result<Vec<Name>, 
 }
 
 /// Names that hold their parents, by level and then by name.
-fn by_level(
-    alloc: Global,
-    bills: &[(Name, Name)],
-    names: &[Name],
-) -> Result<Vec<Name>, LevelFault>
+fn by_level(alloc: Global, bills: &[(Name, Name)], names: &[Name]) -> Result<Vec<Name>, LevelFault>
     requires ascending { are_ascending names.now ≡ true }
     requires closed { AreClosed bills.now names.now }
     ensures names { IfOk result (λ found. (levels : List (Name × ℕ))

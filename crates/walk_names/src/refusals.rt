@@ -37,10 +37,12 @@ fn lacks_calendar_in(job: &Job, name: &Name) -> bool
     ensures { result ≡ lacks_calendar (records job.now.cells) (record_at (records job.now.cells) (keys.Part name.now)) }
 {
     match record_in(job, &CellName::Part(*name), &Key::Part(*name)) {
-        Some(Record::Part {
-            calendar: Some(calendar),
-            ..
-        }) => record_in(job, &CellName::Cal(*calendar), &Key::Cal(*calendar)).is_none(),
+        Some(
+            Record::Part {
+                calendar: Some(calendar),
+                ..
+            },
+        ) => record_in(job, &CellName::Cal(*calendar), &Key::Cal(*calendar)).is_none(),
         _ => false,
     }
 }

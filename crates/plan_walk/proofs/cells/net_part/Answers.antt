@@ -11,7 +11,7 @@ use Rattle.explosion.specs.Sums.{AreReleases, bills_in}
 use Rattle.explosion.proofs.Own.{bills_own}
 use Rattle.part_steps.specs.Steps.{known_by}
 use Rattle.part_steps.proofs.Local.{step_from_cell}
-use Rattle.plan_walk.proofs.JobCells.{held_cell, record_of, plan_there, works_length}
+use Rattle.walk_names.proofs.JobCells.{held_cell, record_of, plan_there, works_length}
 use Rattle.plan_walk.proofs.cells.net_part.Goals as goal
 
 pub horizon-start-requires-clause-sound : goal.horizon-start-requires-clause-sound

@@ -9,7 +9,7 @@ use Rattle.walk_rules.specs.Cells.{records}
 use Rattle.part_steps.specs.Steps.{calendar_by}
 use Rattle.part_steps.proofs.Days.{every_day}
 use Rattle.part_steps.proofs.Local.{works_from_cell}
-use Rattle.plan_walk.proofs.JobCells.{held_cell, cell_there, record_of}
+use Rattle.walk_names.proofs.JobCells.{held_cell, cell_there, record_of}
 use Rattle.plan_walk.proofs.cells.working_days.Goals as goal
 
 pub cell_in-cell-requires : goal.cell_in-cell-requires

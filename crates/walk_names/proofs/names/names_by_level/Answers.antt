@@ -1,6 +1,5 @@
-use Rattle.std.proofs.Common.{◌≡◌, ℕ, List, ◌∙◌, ap, sym, subst, refl, map}
+use Rattle.std.proofs.Common.{◌≡◌, ◌∙◌, ap, sym, subst, refl}
 use Rattle.std.specs.Prelude.{Some, None, filter_map}
-use Rattle.plan_schema.specs.declared.name.Name.{Name}
 use Rattle.planning_rules.specs.Refused.{least_name, in_reach}
 use Rattle.low_level_codes.specs.Levels.{IsClosure, AreLevels}
 use Rattle.low_level_codes.specs.Faults.{WhereCyclic}

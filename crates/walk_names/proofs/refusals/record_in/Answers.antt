@@ -1,6 +1,5 @@
 use Rattle.std.proofs.Common.{◌∙◌, sym, subst, ap}
 use Rattle.plan_schema.specs.declared.change.CellName.{CellName}
-use Rattle.plan_schema.specs.Key.{cell_of}
 use Rattle.walk_rules.specs.Cells.{held}
 use Rattle.walk_names.proofs.JobCells.{HeldCell, held_cell, record_of, no_record}
 use Rattle.walk_names.proofs.refusals.record_in.Goals as goal
@@ -10,7 +9,7 @@ returns-in-Some c =
     let rows = c.in-Some.cell.now in
     c.get-in-Some.ensures
     ∙ record_of c.args.job.now.cells c.args.key.now rows
-      (subst (λ (name : CellName). HeldCell c.args.job.now.cells name rows) c.requires.cell (held_cell c.args.job.now.wanted c.args.job.now.cells c.args.cell.now c.in-Some._id.now rows c.requires.job (sym c.in-Some.ensures)))
+    (subst (λ (name : CellName). HeldCell c.args.job.now.cells name rows) c.requires.cell (held_cell c.args.job.now.wanted c.args.job.now.cells c.args.cell.now c.in-Some._id.now rows c.requires.job (sym c.in-Some.ensures)))
 
 pub returns-in-None : goal.returns-in-None
 returns-in-None c =

@@ -1,5 +1,5 @@
 -- The calendar of a cell is the one of the definitions.
-use Rattle.std.proofs.Common.{◌≡◌, ℕ, ◌+◌, List, [], ◌∷◌, Bool, true, false, cond, not, ◌&&◌, ◌||◌, nat_eq, ◌==◌, Option, Some, None, length, refl, sym, ap, ◌∙◌, eqb-true, eq-eqb}
+use Rattle.std.proofs.Common.{◌≡◌, ℕ, ◌+◌, List, [], ◌∷◌, Bool, true, false, cond, not, ◌&&◌, ◌||◌, nat_eq, ◌==◌, Option, Some, None, refl, sym, ap, ◌∙◌, eqb-true, eq-eqb}
 use Rattle.std.specs.Prelude.{replicate, is_some}
 use Rattle.std.specs.List.{cons_option, range_with_len}
 use Rattle.std.specs.Cmp.{tied_itself}
@@ -9,7 +9,7 @@ use Rattle.std.specs.declared.cmp.Ordering.{Ordering}
 use Rattle.std.specs.declared.cmp.Ordering.TheVariants.{Less, Equal, Greater}
 use Rattle.std.proofs.lemmas.Bool.{and_parts}
 use Rattle.std.proofs.lemmas.List.{get_or-replicate, length-replicate}
-use Rattle.std.proofs.lemmas.List.FromFn.{fill_by_all, length-map-range_with_len}
+use Rattle.std.proofs.lemmas.List.FromFn.{fill_by_all}
 use Rattle.std.proofs.lemmas.Option.{unwrap_or-slice_get}
 use Rattle.plan_schema.specs.declared.name.Name.{Name}
 use Rattle.plan_schema.specs.declared.key.Key.{Key}
@@ -20,13 +20,12 @@ use Rattle.plan_schema.specs.Key.{name_cmp, name_eq, key_cmp}
 use Rattle.plan_schema.specs.Day.{weekday_of}
 use Rattle.plan_schema.specs.Contents.{Contents, record_at}
 use Rattle.plan_schema.proofs.Orders.{exact_keys}
-use Rattle.planning_rules.specs.Days.{start_of, days_of, works, works_by}
+use Rattle.planning_rules.specs.Days.{days_of, works, works_by}
 use Rattle.planning_rules.proofs.PlanLaws.{map_same}
 use Rattle.planning_rules.proofs.LevelLaws.{same_name, one_name}
 use Rattle.plan_calendar.specs.Weeks.{is_holiday, week_works, worked_days}
 use Rattle.part_steps.specs.Holidays.{holiday_of, holidays_of}
 use Rattle.part_steps.specs.Steps.{calendar_by}
-
 
 same_names : (a b : Name) → pointwise nat_eq a b ≡ name_eq a b
 same_names a b = texts_ties a b

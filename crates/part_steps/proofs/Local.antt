@@ -1,5 +1,5 @@
 -- A step from the cells of its part is that of the definitions.
-use Rattle.std.proofs.Common.{◌≡◌, ℕ, ◌+◌, List, Bool, true, false, cond, refl, sym, ap, ◌∙◌, ◌&&◌}
+use Rattle.std.proofs.Common.{◌≡◌, ℕ, ◌+◌, List, true, false, cond, refl, sym, ap, ◌∙◌, ◌&&◌}
 use Rattle.std.specs.Prelude.{Option, Some, None, is_none, slice_get, unwrap_or}
 use Rattle.std.specs.List.{range_with_len}
 use Rattle.plan_schema.specs.declared.name.Name.{Name}
@@ -15,7 +15,7 @@ use Rattle.planning_rules.proofs.PlanLaws.{map_same}
 use Rattle.walk_rules.specs.Steps.{gross_from, calendar_of, calendar_in}
 use Rattle.walk_rules.proofs.Local.{record_here}
 use Rattle.explosion.proofs.Own.{gross_own, sched_own}
-use Rattle.part_steps.specs.Steps.{calendar_by, input_with}
+use Rattle.part_steps.specs.Steps.{input_with}
 use Rattle.part_steps.specs.Laws.{StepFromCell, WorksFromCell}
 
 by_record : (c : Contents) (n : Name) (lists : List (List ℕ)) (r : Option Record) → has_calendar c (calendar_of r) ≡ true
@@ -40,7 +40,7 @@ step_from_cell c n lists h =
 pub works_from_cell : WorksFromCell
 works_from_cell c k =
     map_same (λ t. works_by (cell_rows c (names.Cal k)) k (record_at (cell_rows c (names.Cal k)) (keys.Cal k)) (start_of c + t)) (λ t. works_by c k (record_at c (keys.Cal k)) (start_of c + t))
-      (λ t. ap (λ r. works_by (cell_rows c (names.Cal k)) k r (start_of c + t)) (record_here c (keys.Cal k)) ∙ by_kind (record_at c (keys.Cal k)) (start_of c + t)) (range_with_len 0 (days_of c))
+    (λ t. ap (λ r. works_by (cell_rows c (names.Cal k)) k r (start_of c + t)) (record_here c (keys.Cal k)) ∙ by_kind (record_at c (keys.Cal k)) (start_of c + t)) (range_with_len 0 (days_of c))
   where
     by_kind : (r : Option Record) (date : ℕ) → works_by (cell_rows c (names.Cal k)) k r date ≡ works_by c k r date
     by_kind (Some (records.Cal week)) date = ap (λ o. unwrap_or (slice_get week (weekday_of date)) false && is_none o) (record_here c (keys.Holiday k date))

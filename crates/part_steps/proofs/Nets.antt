@@ -1,6 +1,5 @@
 -- What a part's step comes to.
-use Rattle.std.proofs.Common.{◌≡◌, ℕ, zero, suc, ◌<◌, ◌≤◌, List, [], ◌∷◌, length, get_or, refl, sym, ap, subst, ◌∙◌, arith, Bool, true, false, cond, ◌&&◌, ◌||◌}
-use Rattle.std.proofs.lemmas.Bool.{and_parts}
+use Rattle.std.proofs.Common.{◌≡◌, ℕ, zero, suc, ◌≤◌, List, [], ◌∷◌, refl, sym, ap, subst, ◌∙◌, arith, Bool, true, false, cond, ◌&&◌, ◌||◌}
 use Rattle.std.proofs.lemmas.Bool.Decides.{nat_tests}
 use Rattle.std.specs.Prelude.{Option, Some, None, is_some, nat_lt, All, IsTrue}
 use Rattle.std.specs.List.{list_any}
@@ -12,10 +11,10 @@ use Rattle.plan_schema.specs.declared.outcome.Outcome.{Outcome}
 use Rattle.plan_schema.specs.declared.outcome.NetFault.{NetFault}
 use Rattle.plan_schema.specs.declared.outcome.NetFault.TheVariants as faults
 use Rattle.plan_schema.specs.Contents.{Contents, record_at}
-use Rattle.plan_schema.specs.Sound.{is_sound_row, is_sound_key, record_has_names, is_within, are_sound_rows}
+use Rattle.plan_schema.specs.Sound.{is_sound_row, are_sound_rows}
 use Rattle.plan_schema.proofs.Orders.{sound_at}
 use Rattle.planning_rules.specs.Netting.{Input, HasStep, Netted, planned_of, exceeds, releases, limit, is_too_large, outcome_from}
-use Rattle.planning_rules.specs.Plan.{Known, Planned, Large, stock_in, known_from}
+use Rattle.planning_rules.specs.Plan.{Planned, Large, stock_in, known_from}
 use Rattle.planning_rules.proofs.NettedLaws.{one_netting_is}
 use Rattle.explosion.specs.Sums.{gross_by, sched_by}
 use Rattle.netting.specs.Inputs.{told, WhereLarge}

@@ -1,9 +1,8 @@
 -- A step from the cells of its part is that of the definitions.
-use Rattle.std.specs.Prelude.{◌≡◌, ℕ, List, Bool, true, Some, None, replicate}
+use Rattle.std.specs.Prelude.{◌≡◌, ℕ, List, true, Some, None, replicate}
 use Rattle.plan_schema.specs.declared.name.Name.{Name}
 use Rattle.plan_schema.specs.declared.change.CellName.TheVariants as names
-use Rattle.plan_schema.specs.declared.key.Key.TheVariants as keys
-use Rattle.plan_schema.specs.Contents.{Contents, record_at, cell_rows}
+use Rattle.plan_schema.specs.Contents.{Contents, cell_rows}
 use Rattle.planning_rules.specs.Days.{start_of, days_of, works}
 use Rattle.planning_rules.specs.Plan.{has_calendar}
 use Rattle.walk_rules.specs.Steps.{step_from, calendar_in}

@@ -44,9 +44,14 @@ fn input(
     ensures large { result ≡ Err TooLarge
         → exceeds (gross_by cell.now start.now days releases.now) ≡ true }
 {
-    let Some(Record::Part {
-        lead, lot, safety, ..
-    }) = record_in(cell, &Key::Part(*name))
+    let Some(
+        Record::Part {
+            lead,
+            lot,
+            safety,
+            ..
+        },
+    ) = record_in(cell, &Key::Part(*name))
     else {
         unreachable!()
     };

@@ -1,6 +1,6 @@
 -- The parts of a frontier can be netted.
-use Rattle.std.proofs.Common.{◌≡◌, ℕ, zero, suc, ◌+◌, ◌<◌, ◌≤◌, List, [], ◌∷◌, ◌++◌, length, map, take, get_or, refl, sym, ◌∙◌, ap, subst, arith, Bool, true, false, cond}
-use Rattle.std.specs.Prelude.{Option, Some, None, slice_get, slice_index, option_map, unwrap_or}
+use Rattle.std.proofs.Common.{◌≡◌, ℕ, zero, suc, ◌+◌, ◌≤◌, List, [], ◌∷◌, ◌++◌, length, map, take, get_or, refl, sym, ◌∙◌, ap, subst, arith, true}
+use Rattle.std.specs.Prelude.{Option, Some, None, slice_get, option_map, unwrap_or}
 use Rattle.std.specs.List.{AllByRecursion, list_all, filter_map, cons_option}
 use Rattle.std.specs.declared.sync.Arc.{Arc}
 use Rattle.plan_schema.specs.declared.name.Name.{Name}
@@ -14,14 +14,14 @@ use Rattle.walk_rules.specs.Rights.{AreRight}
 use Rattle.walk_rules.specs.Steps.{step_from}
 use Rattle.walk_rules.specs.Walks.{Parts, known_at, frontier, releases_of, result_of}
 use Rattle.walk_rules.proofs.PutRight.{IsRelease, lists_release}
-use Rattle.explosion.specs.Sums.{AreReleases, list_at}
+use Rattle.explosion.specs.Sums.{AreReleases}
 use Rattle.plan_jobs.specs.declared.job.Job.{Job}
 use Rattle.plan_walk.specs.declared.node.Node.{Node}
 use Rattle.plan_walk.specs.Places.{parts_of, known_in, StandAt, lists_at}
 use Rattle.plan_walk.specs.Nodes.{node_names, names_at, ups_at}
 use Rattle.plan_walk.specs.Walk.{CanStep, IsWalk}
 use Rattle.plan_walk.specs.Results.{told}
-use Rattle.plan_walk.specs.FrontSteps.{AtFront, AreAtFront, AreNetted}
+use Rattle.plan_walk.specs.FrontSteps.{AreAtFront, AreNetted}
 use Rattle.plan_walk.proofs.Places.{each_at, outcomes_place, lists_place}
 use Rattle.plan_walk.proofs.SoFar.{names_long, name_there, ups_there}
 use Rattle.plan_walk.proofs.Taking.{get_map, take_next, ready_parts}

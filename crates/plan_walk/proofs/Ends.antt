@@ -1,16 +1,15 @@
 -- A walk is at its end exactly where each of its parts is settled.
-use Rattle.std.proofs.Common.{◌≡◌, ℕ, zero, suc, ◌+◌, ◌<◌, inl, inr, List, [], ◌∷◌, length, map, refl, sym, ◌∙◌, ap, subst, arith, Bool, true, false, cond}
+use Rattle.std.proofs.Common.{◌≡◌, ℕ, suc, ◌+◌, ◌<◌, inl, inr, List, [], ◌∷◌, refl, sym, ◌∙◌, ap, arith, Bool, true, false, cond}
 use Rattle.std.proofs.lemmas.Bool.{cases_lt}
-use Rattle.std.specs.Prelude.{Option, Some, None, slice_get, filter, Contains}
+use Rattle.std.specs.Prelude.{Some, slice_get, filter, Contains}
 use Rattle.std.specs.List.{AllByRecursion}
 use Rattle.plan_schema.specs.declared.name.Name.{Name}
-use Rattle.plan_schema.specs.Contents.{Contents}
 use Rattle.planning_rules.specs.Bills.{parents}
-use Rattle.planning_rules.proofs.Membership.{IsIn, in_contained, contained_in}
+use Rattle.planning_rules.proofs.Membership.{IsIn, contained_in}
 use Rattle.record_versions.specs.declared.version.VersionId.{VersionId}
 use Rattle.walk_rules.specs.Cells.{Cells, records}
 use Rattle.walk_rules.specs.Works.{AreUpward}
-use Rattle.walk_rules.specs.Walks.{Parts, names_of, is_ready, frontier, is_empty, IsSettled}
+use Rattle.walk_rules.specs.Walks.{names_of, is_ready, frontier, is_empty, IsSettled}
 use Rattle.walk_rules.proofs.WorkLaws.{settled_not_ready, none_ready}
 use Rattle.plan_walk.specs.declared.node.Node.{Node}
 use Rattle.plan_walk.specs.declared.round.Round.{Round}

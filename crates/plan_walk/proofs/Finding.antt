@@ -1,5 +1,5 @@
 -- A name among those of nodes.
-use Rattle.std.proofs.Common.{◌≡◌, ℕ, zero, suc, ◌+◌, ◌<◌, ◌≤◌, inl, inr, List, [], ◌∷◌, length, map, refl, sym, ◌∙◌, ap, subst, arith, Bool, true, false, cond, nat_eq}
+use Rattle.std.proofs.Common.{◌≡◌, ℕ, suc, ◌+◌, ◌<◌, ◌≤◌, inl, inr, List, [], ◌∷◌, length, refl, sym, ◌∙◌, ap, arith, Bool, true, false, cond, nat_eq}
 use Rattle.std.proofs.lemmas.Bool.{cases_lt}
 use Rattle.std.specs.Prelude.{Option, Some, None, slice_get}
 use Rattle.std.specs.Cmp.Lexicographic.{pointwise, texts_ties}
@@ -20,14 +20,14 @@ found_here nodes i node name b is test yes_it = name_there nodes i node is ∙ a
 pub not_here : (nodes : List Node) (i : ℕ) (node : Node) (name : Name) (b : Bool) → slice_get nodes i ≡ Some node → b ≡ pointwise nat_eq node.name name → b ≡ false
     → ((k : ℕ) → k < i → slice_get (node_names nodes) k ≡ Some name → ⊥) → (k : ℕ) → k < i + 1 → slice_get (node_names nodes) k ≡ Some name → ⊥
 not_here nodes i node name b is test not_it before k low at = elim (cases_lt k i) [
-    | inl less ↦ before k less at
-    | inr more ↦
-        let same : k ≡ i = omega arith in
-        let one : Some node.name ≡ Some name = sym (name_there nodes i node is) ∙ ap (slice_get (node_names nodes)) (sym same) ∙ at in
-        let names : node.name ≡ name = cc in
-        let passes : b ≡ true = test ∙ texts_ties node.name name ∙ ap (name_eq node.name) (sym names) ∙ same_name node.name in
-        let never : false ≡ true = sym not_it ∙ passes in cc
-  ]
+  | inl less ↦ before k less at
+  | inr more ↦
+      let same : k ≡ i = omega arith in
+      let one : Some node.name ≡ Some name = sym (name_there nodes i node is) ∙ ap (slice_get (node_names nodes)) (sym same) ∙ at in
+      let names : node.name ≡ name = cc in
+      let passes : b ≡ true = test ∙ texts_ties node.name name ∙ ap (name_eq node.name) (sym names) ∙ same_name node.name in
+      let never : false ≡ true = sym not_it ∙ passes in cc
+]
 
 pub not_anywhere : (nodes : List Node) (name : Name) (i : ℕ) → length nodes ≤ i → ((k : ℕ) → k < i → slice_get (node_names nodes) k ≡ Some name → ⊥) → (k : ℕ) → slice_get (node_names nodes) k ≡ Some name → ⊥
 not_anywhere nodes name i past before k at = let low = inside (node_names nodes) k name at in let long = names_long nodes in before k (omega arith) at

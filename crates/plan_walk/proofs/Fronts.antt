@@ -1,20 +1,20 @@
 -- A frontier by names and by places.
-use Rattle.std.proofs.Common.{◌≡◌, ℕ, zero, suc, ◌<◌, ◌≤◌, ◌⊎◌, inl, inr, List, [], ◌∷◌, ◌++◌, length, map, take, drop, refl, sym, ◌∙◌, ap, subst, arith, Bool, true, false, cond, ◌==◌, ◌||◌}
+use Rattle.std.proofs.Common.{◌≡◌, ℕ, zero, suc, ◌<◌, ◌≤◌, List, [], ◌∷◌, ◌++◌, length, map, take, drop, refl, sym, ◌∙◌, ap, subst, arith, Bool, true, false, cond, ◌==◌, ◌||◌}
 use Rattle.std.proofs.lemmas.Bool.Decides.{nat_tests}
-use Rattle.std.specs.Prelude.{Option, Some, None, option_map, slice_get, unwrap_or, filter}
-use Rattle.std.specs.List.{AllByRecursion, list_any}
+use Rattle.std.specs.Prelude.{Option, Some, option_map, slice_get, unwrap_or, filter}
+use Rattle.std.specs.List.{list_any}
 use Rattle.plan_schema.specs.declared.name.Name.{Name}
 use Rattle.plan_schema.specs.Key.{name_eq}
 use Rattle.planning_rules.specs.Plan.{Known}
 use Rattle.planning_rules.proofs.LevelLaws.{same_name}
 use Rattle.record_versions.specs.declared.version.VersionId.{VersionId}
 use Rattle.walk_rules.specs.Cells.{Cells, records}
-use Rattle.walk_rules.specs.Walks.{is_ready, frontier, names_of}
+use Rattle.walk_rules.specs.Walks.{is_ready, frontier}
 use Rattle.plan_walk.specs.declared.node.Node.{Node}
 use Rattle.plan_walk.specs.Places.{parts_of, AreDistinct, ready_at}
 use Rattle.plan_walk.specs.Nodes.{node_names, names_at, ups_at, IsGraph, Fits}
 use Rattle.plan_walk.proofs.Places.{each_at, names_place}
-use Rattle.plan_walk.proofs.LookUps.{there, ready_name, inside}
+use Rattle.plan_walk.proofs.LookUps.{there, ready_name}
 use Rattle.plan_walk.proofs.SoFar.{names_long}
 use Rattle.plan_walk.proofs.Taking.{get_map}
 
@@ -83,9 +83,11 @@ module _ (cells : Cells) (plan : VersionId) (nodes : List Node) (graph : IsGraph
       let low = places k place at in
       let name = there (node_names nodes) place (subst (λ n. place < n) (sym (names_long nodes)) low) in
       let kth : slice_get (names_at (node_names nodes) front) k ≡ Some name.0 =
-        get_map (λ q. unwrap_or (slice_get (node_names nodes) q) []) front k ∙ ap (option_map (λ q. unwrap_or (slice_get (node_names nodes) q) [])) at ∙ ap (λ o. Some (unwrap_or o [])) name.1 in
-      (low, sym (ready_name cells (node_names nodes) graph.distinct (ups_at nodes) fits.above graph.before ks all_names place name.0 name.1)
-        ∙ passes (is_ready (records cells) (parts_of (node_names nodes) ks)) (node_names nodes) k name.0 (ap (λ ns. slice_get ns k) (sym by_names) ∙ kth))
+      get_map (λ q. unwrap_or (slice_get (node_names nodes) q) []) front k ∙ ap (option_map (λ q. unwrap_or (slice_get (node_names nodes) q) [])) at ∙ ap (λ o. Some (unwrap_or o [])) name.1 in (
+        low,
+        sym (ready_name cells (node_names nodes) graph.distinct (ups_at nodes) fits.above graph.before ks all_names place name.0 name.1)
+            ∙ passes (is_ready (records cells) (parts_of (node_names nodes) ks)) (node_names nodes) k name.0 (ap (λ ns. slice_get ns k) (sym by_names) ∙ kth),
+      )
 
   -- and no others are
   pub ready_front : (q : ℕ) → q < length nodes → ready_at (ups_at nodes q) ks q ≡ true → list_any (λ k. k == q) front ≡ true

@@ -1,18 +1,17 @@
 -- Looking up the ready parts alone, in order, comes to what looking up all of them does.
-use Rattle.std.proofs.Common.{◌≡◌, ℕ, zero, suc, ◌+◌, ◌-◌, ◌<◌, ◌≤◌, ◌⊎◌, inl, inr, List, [], ◌∷◌, ◌++◌, length, map, take, set, refl, sym, ◌∙◌, ap, subst, arith, Bool, true, false, cond, ◌&&◌, ◌==◌, length-set}
+use Rattle.std.proofs.Common.{◌≡◌, ℕ, zero, suc, ◌+◌, ◌<◌, ◌≤◌, inl, inr, List, [], ◌∷◌, ◌++◌, length, take, set, refl, sym, ◌∙◌, ap, subst, arith, Bool, true, false, cond, ◌&&◌, ◌==◌, length-set}
 use Rattle.std.proofs.lemmas.Bool.{cases_lt}
 use Rattle.std.proofs.lemmas.Bool.Decides.{nat_tests}
 use Rattle.std.specs.Prelude.{Option, Some, None, is_none, filter, fold, slice_get}
-use Rattle.std.specs.List.{AllByRecursion, list_all, list_any}
+use Rattle.std.specs.List.{AllByRecursion, list_all}
 use Rattle.std.specs.Map.{lookup}
 use Rattle.plan_schema.specs.declared.name.Name.{Name}
 use Rattle.planning_rules.specs.Bills.{parents}
-use Rattle.planning_rules.specs.Plan.{Known, has_outcome, released}
+use Rattle.planning_rules.specs.Plan.{Known, has_outcome}
 use Rattle.shared_memo.specs.Pairs.{in_front}
-use Rattle.walk_rules.specs.declared.key.MemoKey.{MemoKey}
 use Rattle.walk_rules.specs.Cells.{Cells, records}
 use Rattle.walk_rules.specs.Memo.{Pairs, key_of, key_eq}
-use Rattle.walk_rules.specs.Walks.{Part, Parts, State, known_at, names_of, is_ready, releases_of, look_up, found_by, with_hit, with_hits, frontier}
+use Rattle.walk_rules.specs.Walks.{State, names_of, is_ready, releases_of, look_up, found_by, with_hit, with_hits, frontier}
 use Rattle.plan_walk.specs.Places.{parts_of, known_in, AreDistinct, StandAt, ready_at, lists_at}
 use Rattle.plan_walk.proofs.Places.{known_place, learn_place, names_place, outcomes_place, lists_place, known_here, ready_unless, none_from}
 
@@ -71,7 +70,6 @@ pub record Going (cells : Cells) (ns : List Name) (start : State) (j : ℕ) (ks 
 module _ (cells : Cells) (ns : List Name) (d : AreDistinct ns) (ups : ℕ → List ℕ)
     (stand : (k : ℕ) (n : Name) → slice_get ns k ≡ Some n → StandAt ns (ups k) (parents (records cells) n))
     (lower : (k : ℕ) → AllByRecursion (λ q. q < k) (ups k)) where
-
   pub ready_name : (ks : List (Option Known)) → length ks ≡ length ns → (k : ℕ) (n : Name) → slice_get ns k ≡ Some n → is_ready (records cells) (parts_of ns ks) n ≡ ready_at (ups k) ks k
   ready_name ks l k n is = λ i. is_none (known_place ns ks k n d l is i) && outcomes_place ns ks d l (ups k) (parents (records cells) n) (stand k n is) i
 
@@ -99,8 +97,8 @@ module _ (cells : Cells) (ns : List Name) (d : AreDistinct ns) (ups : ℕ → Li
           whole = g.whole;
           state = fold_more (look_up cells) start ns j at.0 at.1 ∙ ap (λ s. look_up cells s at.0) g.state ∙ passed ks pairs reused at.0 ready;
           fronts = filter_more (is_ready (records cells) (parts_of ns ks)) ns j at.0 at.1
-            ∙ (λ i. g.fronts i ++ cond (ready i) (at.0 ∷ []) [])
-            ∙ append_none front;
+              ∙ (λ i. g.fronts i ++ cond (ready i) (at.0 ∷ []) [])
+              ∙ append_none front;
         }
 
     -- places that aren't ready are passed over
@@ -129,7 +127,7 @@ module _ (cells : Cells) (ns : List Name) (d : AreDistinct ns) (ups : ℕ → Li
           within = omega arith;
           whole = g.whole;
           state = fold_more (look_up cells) start ns i n is ∙ ap (λ s. look_up cells s n) g.state ∙ looked ks pairs reused n ready
-            ∙ ap (with_hit (come_to ks pairs reused) n (key_of cells n (releases_of (records cells) (parts_of ns ks) n))) missed;
+              ∙ ap (with_hit (come_to ks pairs reused) n (key_of cells n (releases_of (records cells) (parts_of ns ks) n))) missed;
           fronts = filter_more (is_ready (records cells) (parts_of ns ks)) ns i n is ∙ (λ j. g.fronts j ++ cond (ready j) (n ∷ []) []);
         }
 
@@ -145,19 +143,19 @@ module _ (cells : Cells) (ns : List Name) (d : AreDistinct ns) (ups : ℕ → Li
         let whole : length (set ks i (Some known)) ≡ length ns = length-set ks i (Some known) ∙ g.whole in
         let within : i < length ks = omega arith in
         let now : is_ready (records cells) (parts_of ns (set ks i (Some known))) n ≡ false =
-          ready_name (set ks i (Some known)) whole i n is ∙ ap (λ o. is_none o && list_all (λ q. has_outcome (known_in (set ks i (Some known)) q)) (ups i)) (known_here ks i (Some known) within) in
+        ready_name (set ks i (Some known)) whole i n is ∙ ap (λ o. is_none o && list_all (λ q. has_outcome (known_in (set ks i (Some known)) q)) (ups i)) (known_here ks i (Some known) within) in
         let before : filter (is_ready (records cells) (parts_of ns (set ks i (Some known)))) (take i ns) ≡ filter (is_ready (records cells) (parts_of ns ks)) (take i ns) =
-          filter_same (is_ready (records cells) (parts_of ns (set ks i (Some known)))) (is_ready (records cells) (parts_of ns ks)) ns i
-          (λ k x l at. ready_name (set ks i (Some known)) whole k x at ∙ same_before k l ∙ sym (ready_name ks g.whole k x at)) in
+        filter_same (is_ready (records cells) (parts_of ns (set ks i (Some known)))) (is_ready (records cells) (parts_of ns ks)) ns i
+        (λ k x l at. ready_name (set ks i (Some known)) whole k x at ∙ same_before k l ∙ sym (ready_name ks g.whole k x at)) in
         record {
           within = omega arith;
           whole = whole;
           state = fold_more (look_up cells) start ns i n is ∙ ap (λ s. look_up cells s n) g.state ∙ looked ks pairs reused n ready
-            ∙ ap (with_hit (come_to ks pairs reused) n (key_of cells n (releases_of (records cells) (parts_of ns ks) n))) found
-            ∙ (λ j. record { parts = learn_place ns ks i n known d g.whole is j; pairs = in_front (key_eq (key j)) pairs; netted = start.netted; reused = reused + 1 });
+              ∙ ap (with_hit (come_to ks pairs reused) n (key_of cells n (releases_of (records cells) (parts_of ns ks) n))) found
+              ∙ (λ j. record { parts = learn_place ns ks i n known d g.whole is j; pairs = in_front (key_eq (key j)) pairs; netted = start.netted; reused = reused + 1 });
           fronts = filter_more (is_ready (records cells) (parts_of ns (set ks i (Some known)))) ns i n is
-            ∙ (λ j. (before ∙ g.fronts) j ++ cond (now j) (n ∷ []) [])
-            ∙ append_none front;
+              ∙ (λ j. (before ∙ g.fronts) j ++ cond (now j) (n ∷ []) [])
+              ∙ append_none front;
         }
       where
         same_before : (k : ℕ) → k < i → ready_at (ups k) (set ks i (Some known)) k ≡ ready_at (ups k) ks k
@@ -168,6 +166,7 @@ module _ (cells : Cells) (ns : List Name) (d : AreDistinct ns) (ups : ℕ → Li
     -- at the end these are all hits, and what is left is the frontier
     pub going_home : (ks : List (Option Known)) (pairs : Pairs) (reused : ℕ) (front : List Name) → names_of start.parts ≡ ns → Going cells ns start (length ns) ks pairs reused front
         → (with_hits cells start ≡ come_to ks pairs reused) × (frontier (records cells) (parts_of ns ks) ≡ front)
-    going_home ks pairs reused front names g =
-        (ap (fold (look_up cells) start) (names ∙ sym (take_whole ns)) ∙ g.state,
-          ap (filter (is_ready (records cells) (parts_of ns ks))) (names_place ns ks g.whole ∙ sym (take_whole ns)) ∙ g.fronts)
+    going_home ks pairs reused front names g = (
+      ap (fold (look_up cells) start) (names ∙ sym (take_whole ns)) ∙ g.state,
+      ap (filter (is_ready (records cells) (parts_of ns ks))) (names_place ns ks g.whole ∙ sym (take_whole ns)) ∙ g.fronts,
+    )

@@ -1,21 +1,18 @@
 -- The loop over the parts that wait.
-use Rattle.std.proofs.Common.{◌≡◌, ℕ, zero, suc, ◌+◌, ◌-◌, ◌<◌, ◌≤◌, ◌⊎◌, inl, inr, List, [], ◌∷◌, ◌++◌, length, map, take, set, get_or, refl, sym, ◌∙◌, ap, subst, arith, Bool, true, false, ◌||◌, ◌==◌, length-set}
-use Rattle.std.specs.Ordering.{nat_cmp, is_eq}
+use Rattle.std.proofs.Common.{◌≡◌, ℕ, zero, suc, ◌+◌, ◌-◌, ◌<◌, ◌≤◌, ◌⊎◌, inl, inr, List, [], ◌∷◌, ◌++◌, length, set, get_or, refl, sym, ◌∙◌, ap, subst, arith, Bool, true, false, ◌||◌, ◌==◌, length-set}
+use Rattle.std.specs.Ordering.{is_eq}
 use Rattle.std.specs.Cmp.{tied_itself, nat_cmp_total}
 use Rattle.std.proofs.lemmas.Bool.Decides.{nat_tests}
-use Rattle.std.specs.Prelude.{Option, Some, None, option_map, slice_get, unwrap_or}
+use Rattle.std.specs.Prelude.{Option, Some, slice_get, unwrap_or}
 use Rattle.std.specs.List.{AllByRecursion, list_any}
 use Rattle.std.specs.Map.{lookup}
 use Rattle.plan_schema.specs.declared.name.Name.{Name}
-use Rattle.plan_schema.specs.declared.change.CellName.TheVariants as names
 use Rattle.planning_rules.specs.Plan.{Known}
 use Rattle.shared_memo.specs.Pairs.{in_front}
 use Rattle.record_versions.specs.declared.version.VersionId.{VersionId}
-use Rattle.walk_rules.specs.declared.key.MemoKey.{MemoKey}
-use Rattle.walk_rules.specs.Cells.{Cells, records, version_in}
-use Rattle.walk_rules.specs.Steps.{calendar_in}
+use Rattle.walk_rules.specs.Cells.{Cells, records}
 use Rattle.walk_rules.specs.Memo.{Pairs, key_of, key_eq}
-use Rattle.walk_rules.specs.Walks.{State, with_hits, frontier}
+use Rattle.walk_rules.specs.Walks.{with_hits, frontier}
 use Rattle.plan_walk.specs.declared.node.Node.{Node}
 use Rattle.plan_walk.specs.Places.{parts_of, ready_at, lists_at}
 use Rattle.plan_walk.specs.Nodes.{node_names, ups_at, downs_at, node_key, IsGraph, Fits, state_of, names_at}
@@ -23,7 +20,7 @@ use Rattle.plan_walk.specs.Waiting.{waits}
 use Rattle.plan_walk.specs.LookUps.{IsHit, IsMissed}
 use Rattle.std.proofs.lemmas.Map.Views.{exact_unsigned_eq}
 use Rattle.planning_rules.proofs.Membership.{either}
-use Rattle.plan_walk.proofs.Places.{each_at, newly_ready, names_place}
+use Rattle.plan_walk.proofs.Places.{newly_ready, names_place}
 use Rattle.plan_walk.proofs.LookUps.{Going, going_to, going_missed, going_hit, going_home, inside}
 
 -- before the place j all has been looked up, and the ready parts from it on wait
@@ -94,7 +91,6 @@ each_down low high (r ∷ rs) q all any =
 
 module _ (plan : VersionId) (nodes : List Node) (graph : IsGraph nodes) (start now : List (Option Known)) (first pairs : Pairs) (front waiting : List ℕ) (reused : ℕ)
     (s : SoFar plan nodes start now first pairs front waiting reused) (place : ℕ) (left : List ℕ) (t : Takes waiting place left) where
-
   pub place_inside : place < length nodes
   place_inside = (s.later place t.here).1
 
@@ -102,18 +98,18 @@ module _ (plan : VersionId) (nodes : List Node) (graph : IsGraph nodes) (start n
   none_between : (k : ℕ) → s.j ≤ k → k < place → ready_at (ups_at nodes k) now k ≡ false
   none_between k low high =
       not_true (ready_at (ups_at nodes k) now k) (λ ready.
-        let inside = place_inside in
-        elim (t.stays k (s.all k low (omega arith) ready)) [
-          | inl still ↦ let after = t.later k still in omega arith
-          | inr same ↦ omega arith
-        ])
+      let inside = place_inside in
+      elim (t.stays k (s.all k low (omega arith) ready)) [
+        | inl still ↦ let after = t.later k still in omega arith
+        | inr same ↦ omega arith
+      ])
 
   at_place : (cells : Cells) (netted before : ℕ) → Fits cells plan nodes → Going cells (node_names nodes) (state_of nodes start first netted before) place now pairs (before + reused) (names_at (node_names nodes) front)
   at_place cells netted before fits =
       let here = s.later place t.here in
       let long = names_long nodes in
       going_to cells (node_names nodes) graph.distinct (ups_at nodes) fits.above graph.before (state_of nodes start first netted before) place s.j now pairs (before + reused) (names_at (node_names nodes) front)
-        (s.going cells netted before fits) here.0 (omega arith) none_between
+      (s.going cells netted before fits) here.0 (omega arith) none_between
 
   still_waits : (q : ℕ) → place < q → q < length nodes → ready_at (ups_at nodes q) now q ≡ true → waits left q ≡ true
   still_waits q low high ready =
@@ -132,9 +128,9 @@ module _ (plan : VersionId) (nodes : List Node) (graph : IsGraph nodes) (start n
     later = λ q h. let after = t.later q h in (omega arith, (s.later q (t.alone q h)).1);
     all = λ q low high ready. still_waits q (omega arith) high ready;
     going = λ cells netted before fits.
-      let long = names_long nodes in
-      let here = place_inside in
-      going_to cells (node_names nodes) graph.distinct (ups_at nodes) fits.above graph.before (state_of nodes start first netted before) (suc place) place now pairs (before + reused) (names_at (node_names nodes) front)
+        let long = names_long nodes in
+        let here = place_inside in
+        going_to cells (node_names nodes) graph.distinct (ups_at nodes) fits.above graph.before (state_of nodes start first netted before) (suc place) place now pairs (before + reused) (names_at (node_names nodes) front)
         (at_place cells netted before fits) (omega arith) (omega arith) (λ k low high. let same : place ≡ k = omega arith in subst (λ i. ready_at (ups_at nodes i) now i ≡ false) same fails);
   }
 
@@ -157,14 +153,14 @@ module _ (plan : VersionId) (nodes : List Node) (graph : IsGraph nodes) (start n
           later = λ q h. let later = t.later q h in (omega arith, (s.later q (t.alone q h)).1);
           all = λ q low high r. still_waits q (omega arith) high r;
           going = λ cells netted before fits.
-            subst (λ f. Going cells (node_names nodes) (state_of nodes start first netted before) (suc place) now pairs (before + reused) f)
+              subst (λ f. Going cells (node_names nodes) (state_of nodes start first netted before) (suc place) now pairs (before + reused) f)
               (sym (names_more (node_names nodes) front place node.name (name_there nodes place node is)))
               (going_missed cells (node_names nodes) graph.distinct (ups_at nodes) fits.above graph.before (state_of nodes start first netted before) place node.name now pairs (before + reused) (names_at (node_names nodes) front)
-                (at_place cells netted before fits) (name_there nodes place node is) ready_here (ap (λ key. lookup (key_eq key) pairs) (key_here cells fits) ∙ m.none));
+              (at_place cells netted before fits) (name_there nodes place node is) ready_here (ap (λ key. lookup (key_eq key) pairs) (key_here cells fits) ∙ m.none));
         } in
         subst (λ w. SoFar plan nodes start more first pairs longer w reused) (sym m.same_waiting)
-          (subst (λ l. SoFar plan nodes start more first pairs l left reused) (sym m.joined)
-            (subst (λ k. SoFar plan nodes start k first pairs (front ++ place ∷ []) left reused) (sym m.same) so))
+        (subst (λ l. SoFar plan nodes start more first pairs l left reused) (sym m.joined)
+        (subst (λ k. SoFar plan nodes start k first pairs (front ++ place ∷ []) left reused) (sym m.same) so))
 
     -- what waits after a hit is later
     pub hit_later : (more : List (Option Known)) (longer after : List ℕ) → IsHit (node_key plan node (lists_at now node.ups.items)) place node.downs.items pairs now more front longer left after
@@ -193,15 +189,15 @@ module _ (plan : VersionId) (nodes : List Node) (graph : IsGraph nodes) (start n
             | inr up ↦ h.all q (ap (list_any (λ k. k == q)) (sym downs) ∙ graph.below place q up)
           ];
           going = λ cells netted before fits.
-            let key = key_here cells fits in
-            let sums : (before + reused) + 1 ≡ before + (reused + 1) = omega arith in
-            subst (λ r. Going cells (node_names nodes) (state_of nodes start first netted before) (suc place) (set now place (Some h.value)) (in_front (key_eq (node_key plan node (lists_at now node.ups.items))) pairs) r (names_at (node_names nodes) front)) sums
+              let key = key_here cells fits in
+              let sums : (before + reused) + 1 ≡ before + (reused + 1) = omega arith in
+              subst (λ r. Going cells (node_names nodes) (state_of nodes start first netted before) (suc place) (set now place (Some h.value)) (in_front (key_eq (node_key plan node (lists_at now node.ups.items))) pairs) r (names_at (node_names nodes) front)) sums
               (subst (λ k. Going cells (node_names nodes) (state_of nodes start first netted before) (suc place) (set now place (Some h.value)) (in_front (key_eq k) pairs) ((before + reused) + 1) (names_at (node_names nodes) front)) key
-                (going_hit cells (node_names nodes) graph.distinct (ups_at nodes) fits.above graph.before (state_of nodes start first netted before) place node.name h.value now pairs (before + reused) (names_at (node_names nodes) front)
-                  (at_place cells netted before fits) (name_there nodes place node is) ready_here (ap (λ k. lookup (key_eq k) pairs) key ∙ h.found)));
+              (going_hit cells (node_names nodes) graph.distinct (ups_at nodes) fits.above graph.before (state_of nodes start first netted before) place node.name h.value now pairs (before + reused) (names_at (node_names nodes) front)
+              (at_place cells netted before fits) (name_there nodes place node is) ready_here (ap (λ k. lookup (key_eq k) pairs) key ∙ h.found)));
         } in
         subst (λ l. SoFar plan nodes start more first (in_front (key_eq (node_key plan node (lists_at now node.ups.items))) pairs) l after (reused + 1)) (sym h.same_front)
-          (subst (λ k. SoFar plan nodes start k first (in_front (key_eq (node_key plan node (lists_at now node.ups.items))) pairs) front after (reused + 1)) (sym h.learnt) so)
+        (subst (λ k. SoFar plan nodes start k first (in_front (key_eq (node_key plan node (lists_at now node.ups.items))) pairs) front after (reused + 1)) (sym h.learnt) so)
       where
         after_place : (q : ℕ) → list_any (λ k. k == q) node.downs.items ≡ true → (suc place ≤ q) × (q < length nodes)
         after_place q down =
@@ -238,9 +234,9 @@ ends plan nodes graph start now first pairs front waiting reused whole s none ce
     let long = names_long nodes in
     let within = s.within in
     let last = going_to cells (node_names nodes) graph.distinct (ups_at nodes) fits.above graph.before (state_of nodes start first netted before) (length (node_names nodes)) s.j now pairs (before + reused) (names_at (node_names nodes) front)
-      (s.going cells netted before fits) (omega arith) (omega arith) (λ k low high. not_true (ready_at (ups_at nodes k) now k) (λ ready. let w = s.all k low (omega arith) ready in let n = none k in let never : ⊥ = cc in never)) in
+    (s.going cells netted before fits) (omega arith) (omega arith) (λ k low high. not_true (ready_at (ups_at nodes k) now k) (λ ready. let w = s.all k low (omega arith) ready in let n = none k in let never : ⊥ = cc in never)) in
     going_home cells (node_names nodes) graph.distinct (ups_at nodes) fits.above graph.before (state_of nodes start first netted before) now pairs (before + reused) (names_at (node_names nodes) front)
-      (names_place (node_names nodes) start (whole ∙ sym long)) last
+    (names_place (node_names nodes) start (whole ∙ sym long)) last
 
 -- how far the least place that waits is from the end
 abbrev pub room : ℕ → List ℕ → ℕ

@@ -1,5 +1,5 @@
 -- What a settling of a walk needs of it.
-use Rattle.std.proofs.Common.{◌≡◌, ℕ, ◌⊎◌, inl, inr, List, [], ◌∷◌, length, map, refl, sym, ◌∙◌, ap, subst}
+use Rattle.std.proofs.Common.{◌≡◌, ℕ, inl, inr, List, [], ◌∷◌, length, sym, ◌∙◌, subst}
 use Rattle.std.specs.Prelude.{Option}
 use Rattle.std.specs.List.{AllByRecursion}
 use Rattle.plan_schema.specs.declared.name.Name.{Name}
@@ -8,7 +8,7 @@ use Rattle.record_versions.specs.declared.version.VersionId.{VersionId}
 use Rattle.version_rules.specs.Meaning.{Meaning}
 use Rattle.walk_rules.specs.Cells.{Cells, records, Stands}
 use Rattle.walk_rules.specs.Memo.{Pairs}
-use Rattle.walk_rules.specs.Walks.{Parts, names_of, results_of}
+use Rattle.walk_rules.specs.Walks.{Parts, names_of}
 use Rattle.walk_rules.specs.Rights.{HasCells, AreRight, IsResult}
 use Rattle.walk_rules.proofs.TookRight.{results_right}
 use Rattle.plan_jobs.specs.declared.job.Job.{Job}
@@ -16,7 +16,6 @@ use Rattle.plan_walk.specs.declared.node.Node.{Node}
 use Rattle.plan_walk.specs.Places.{parts_of}
 use Rattle.plan_walk.specs.Nodes.{node_names, names_at}
 use Rattle.plan_walk.specs.Settled.{AreSound}
-use Rattle.plan_walk.specs.View.{View}
 use Rattle.plan_walk.specs.Walk.{CanStep, IsWalk, IsSolved}
 use Rattle.plan_jobs.proofs.Rows.{apart}
 use Rattle.plan_walk.proofs.Places.{names_place}
@@ -32,7 +31,7 @@ solved_right : (parts : Parts) (pairs : Pairs) (front : List Name) (job : Job) (
 solved_right parts pairs front job ns names has right solved (inl none) = subst (AllByRecursion (IsResult job.cells (record { parts = parts; pairs = pairs; netted = 0; reused = 0 }))) (sym none) tt
 solved_right parts pairs front job ns names has right solved (inr all) =
     subst (AllByRecursion (IsResult job.cells (record { parts = parts; pairs = pairs; netted = 0; reused = 0 }))) (sym all.0)
-      (results_right job.cells (record { parts = parts; pairs = pairs; netted = 0; reused = 0 }) right (names_of parts) (subst (AllByRecursion (HasCells job.cells)) (sym names) has))
+    (results_right job.cells (record { parts = parts; pairs = pairs; netted = 0; reused = 0 }) right (names_of parts) (subst (AllByRecursion (HasCells job.cells)) (sym names) has))
 
 -- what a right memo needs of a walk to stay right
 pub sound_of : (m : Meaning) (job : Job) (plan : VersionId) (nodes : List Node) (known : List (Option Known)) (n : ℕ) (front : List ℕ) → IsWalk job plan nodes n front → length known ≡ length nodes

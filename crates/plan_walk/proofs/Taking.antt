@@ -1,5 +1,5 @@
 -- Results are taken in one after another.
-use Rattle.std.proofs.Common.{◌≡◌, ℕ, zero, suc, ◌+◌, ◌<◌, ◌≤◌, List, [], ◌∷◌, ◌++◌, length, map, take, set, get_or, refl, sym, ◌∙◌, ap, subst, arith, Bool, true, false, cond, ◌&&◌, ◌==◌, add-one}
+use Rattle.std.proofs.Common.{◌≡◌, ℕ, zero, suc, ◌+◌, List, [], ◌∷◌, ◌++◌, length, map, take, set, refl, sym, ◌∙◌, ap, subst, arith, Bool, true, false, ◌&&◌, ◌==◌, add-one}
 use Rattle.std.proofs.lemmas.Bool.{and_parts}
 use Rattle.std.proofs.lemmas.Bool.Decides.{nat_tests}
 use Rattle.std.specs.Prelude.{Option, Some, None, is_none, option_map, slice_get, unwrap_or}
@@ -11,7 +11,7 @@ use Rattle.record_versions.specs.declared.version.VersionId.{VersionId}
 use Rattle.walk_rules.specs.declared.key.MemoKey.{MemoKey}
 use Rattle.walk_rules.specs.Cells.{Cells, records}
 use Rattle.walk_rules.specs.Memo.{Pairs, key_of, key_eq}
-use Rattle.walk_rules.specs.Walks.{State, Took, take_in, drop_one, put, dropped, releases_of}
+use Rattle.walk_rules.specs.Walks.{Took, take_in, drop_one, put, dropped, releases_of}
 use Rattle.plan_walk.specs.declared.node.Node.{Node}
 use Rattle.plan_walk.specs.Places.{parts_of, known_in, ready_at, lists_at}
 use Rattle.plan_walk.specs.Nodes.{node_names, names_at, ups_at, node_key, IsGraph, Fits, state_of}
@@ -62,14 +62,13 @@ stays_more start now place value stay none q has = by_cases (q == place) refl
 
 module _ (plan : VersionId) (nodes : List Node) (graph : IsGraph nodes) (front : List ℕ) (results : List (Name × Known)) (names : names_at (node_names nodes) front ≡ map (λ r. r.0) results)
     (at place : ℕ) (node : Node) (r : Name × Known) (here : slice_get front at ≡ Some place) (is : slice_get nodes place ≡ Some node) (result : slice_get results at ≡ Some r) where
-
   -- the result at a place is that of the part there
   its_name : r.0 ≡ node.name
   its_name =
       let one : slice_get (map (λ (x : Name × Known). x.0) results) at ≡ Some r.0 = get_map (λ (x : Name × Known). x.0) results at ∙ ap (option_map (λ (x : Name × Known). x.0)) result in
       let two : slice_get (names_at (node_names nodes) front) at ≡ Some node.name =
-        get_map (λ q. unwrap_or (slice_get (node_names nodes) q) []) front at ∙ ap (option_map (λ q. unwrap_or (slice_get (node_names nodes) q) [])) here
-        ∙ ap (λ o. Some (unwrap_or o [])) (name_there nodes place node is) in
+      get_map (λ q. unwrap_or (slice_get (node_names nodes) q) []) front at ∙ ap (option_map (λ q. unwrap_or (slice_get (node_names nodes) q) [])) here
+      ∙ ap (λ o. Some (unwrap_or o [])) (name_there nodes place node is) in
       let both : Some r.0 ≡ Some node.name = sym one ∙ ap (λ ns. slice_get ns at) (sym names) ∙ two in
       cc
 
@@ -81,17 +80,17 @@ module _ (plan : VersionId) (nodes : List Node) (graph : IsGraph nodes) (front :
     all_names = whole ∙ sym (names_long nodes)
 
     learnt : (cells : Cells) (netted before : ℕ) (ps : Pairs)
-      → (record { parts = parts_of (node_names nodes) (set now place (Some r.1)); pairs = ps; netted = (netted + at) + 1; reused = before }) ≡ state_of nodes (set now place (Some r.1)) ps (netted + suc at) before
+        → (record { parts = parts_of (node_names nodes) (set now place (Some r.1)); pairs = ps; netted = (netted + at) + 1; reused = before }) ≡ state_of nodes (set now place (Some r.1)) ps (netted + suc at) before
     learnt cells netted before ps = let sums : (netted + at) + 1 ≡ netted + suc at = omega arith in λ i. record { parts = parts_of (node_names nodes) (set now place (Some r.1)); pairs = ps; netted = sums i; reused = before }
 
     pub taken_dropped : TakenIn plan nodes start (set now place (Some r.1)) first pairs most results (suc at) (n + 1)
     taken_dropped = λ cells netted before fits.
         let step : drop_one (state_of nodes now pairs (netted + at) before) r ≡ state_of nodes (set now place (Some r.1)) pairs (netted + suc at) before =
-          (λ i. record { parts = learn_place (node_names nodes) now place r.0 r.1 graph.distinct all_names stands_there i; pairs = pairs; netted = (netted + at) + 1; reused = before })
-          ∙ learnt cells netted before pairs in
+        (λ i. record { parts = learn_place (node_names nodes) now place r.0 r.1 graph.distinct all_names stands_there i; pairs = pairs; netted = (netted + at) + 1; reused = before })
+        ∙ learnt cells netted before pairs in
         subst (λ rs. Took cells most (state_of nodes start first netted before) rs (n + 1) (state_of nodes (set now place (Some r.1)) pairs (netted + suc at) before)) (sym (take_next results at r result))
-          (subst (λ t. Took cells most (state_of nodes start first netted before) (take at results ++ r ∷ []) (n + 1) t) step
-            (dropped (take at results) n (state_of nodes now pairs (netted + at) before) r (s cells netted before fits)))
+        (subst (λ t. Took cells most (state_of nodes start first netted before) (take at results ++ r ∷ []) (n + 1) t) step
+        (dropped (take at results) n (state_of nodes now pairs (netted + at) before) r (s cells netted before fits)))
 
     key_same : (cells : Cells) → Fits cells plan nodes → key_of cells r.0 (releases_of (records cells) (parts_of (node_names nodes) now) r.0) ≡ node_key plan node (lists_at now node.ups.items)
     key_same cells fits =
@@ -103,11 +102,11 @@ module _ (plan : VersionId) (nodes : List Node) (graph : IsGraph nodes) (front :
     taken_put = λ cells netted before fits.
         let after = with_pair key_eq (memo pairs most) (node_key plan node (lists_at now node.ups.items)) r.1 in
         let step : take_in cells most (state_of nodes now pairs (netted + at) before) r ≡ state_of nodes (set now place (Some r.1)) after (netted + suc at) before =
-          (λ i. record { parts = learn_place (node_names nodes) now place r.0 r.1 graph.distinct all_names stands_there i; pairs = with_pair key_eq (memo pairs most) (key_same cells fits i) r.1; netted = (netted + at) + 1; reused = before })
-          ∙ learnt cells netted before after in
+        (λ i. record { parts = learn_place (node_names nodes) now place r.0 r.1 graph.distinct all_names stands_there i; pairs = with_pair key_eq (memo pairs most) (key_same cells fits i) r.1; netted = (netted + at) + 1; reused = before })
+        ∙ learnt cells netted before after in
         subst (λ rs. Took cells most (state_of nodes start first netted before) rs n (state_of nodes (set now place (Some r.1)) after (netted + suc at) before)) (sym (take_next results at r result))
-          (subst (λ t. Took cells most (state_of nodes start first netted before) (take at results ++ r ∷ []) n t) step
-            (put (take at results) n (state_of nodes now pairs (netted + at) before) r (s cells netted before fits)))
+        (subst (λ t. Took cells most (state_of nodes start first netted before) (take at results ++ r ∷ []) n t) step
+        (put (take at results) n (state_of nodes now pairs (netted + at) before) r (s cells netted before fits)))
 
 long_map : {B C : Type 0} (g : B → C) (xs : List B) → length (map g xs) ≡ length xs
 long_map g [] = refl
@@ -132,14 +131,14 @@ module _ (plan : VersionId) (nodes : List Node) (graph : IsGraph nodes) (front :
       → (after : List (Option Known)) → after ≡ set now place (Some r.1) → TakenIn plan nodes start after first new.pairs most results (at + 1) m
   taken_next true p up same after is_after =
       subst (λ k. TakenIn plan nodes start after first new.pairs most results k m) (sym (add-one at))
-        (subst (λ d. TakenIn plan nodes start after first new.pairs most results (suc at) d) (sym (up refl))
-          (subst (λ ps. TakenIn plan nodes start after first ps most results (suc at) (n + 1)) (ap (λ (x : Memo MemoKey Known). x.pairs) (sym p))
-            (subst (λ ks. TakenIn plan nodes start ks first old.pairs most results (suc at) (n + 1)) (sym is_after)
-              (taken_dropped plan nodes graph front results names at place node r here is result start now first old.pairs most n whole s))))
+      (subst (λ d. TakenIn plan nodes start after first new.pairs most results (suc at) d) (sym (up refl))
+      (subst (λ ps. TakenIn plan nodes start after first ps most results (suc at) (n + 1)) (ap (λ (x : Memo MemoKey Known). x.pairs) (sym p))
+      (subst (λ ks. TakenIn plan nodes start ks first old.pairs most results (suc at) (n + 1)) (sym is_after)
+      (taken_dropped plan nodes graph front results names at place node r here is result start now first old.pairs most n whole s))))
   taken_next false p up same after is_after =
       subst (λ k. TakenIn plan nodes start after first new.pairs most results k m) (sym (add-one at))
-        (subst (λ d. TakenIn plan nodes start after first new.pairs most results (suc at) d) (sym (same refl))
-          (subst (λ ps. TakenIn plan nodes start after first ps most results (suc at) n)
-            (ap (λ k. with_pair key_eq (memo old.pairs k) (node_key plan node (lists_at now node.ups.items)) r.1) (sym same_most) ∙ ap (λ (x : Memo MemoKey Known). x.pairs) (sym p))
-            (subst (λ ks. TakenIn plan nodes start ks first (with_pair key_eq (memo old.pairs most) (node_key plan node (lists_at now node.ups.items)) r.1) most results (suc at) n) (sym is_after)
-              (taken_put plan nodes graph front results names at place node r here is result start now first old.pairs most n whole s))))
+      (subst (λ d. TakenIn plan nodes start after first new.pairs most results (suc at) d) (sym (same refl))
+      (subst (λ ps. TakenIn plan nodes start after first ps most results (suc at) n)
+      (ap (λ k. with_pair key_eq (memo old.pairs k) (node_key plan node (lists_at now node.ups.items)) r.1) (sym same_most) ∙ ap (λ (x : Memo MemoKey Known). x.pairs) (sym p))
+      (subst (λ ks. TakenIn plan nodes start ks first (with_pair key_eq (memo old.pairs most) (node_key plan node (lists_at now node.ups.items)) r.1) most results (suc at) n) (sym is_after)
+      (taken_put plan nodes graph front results names at place node r here is result start now first old.pairs most n whole s))))

@@ -1,5 +1,5 @@
 -- A settling keeps what is known right, and the memo.
-use Rattle.std.proofs.Common.{◌≡◌, ℕ, ◌⊎◌, inl, inr, List, [], ◌∷◌, take, map, refl, sym, ◌∙◌, ap, subst}
+use Rattle.std.proofs.Common.{ℕ, List, take, sym, subst}
 use Rattle.std.specs.Prelude.{Option}
 use Rattle.std.specs.List.{AllByRecursion}
 use Rattle.plan_schema.specs.declared.name.Name.{Name}
@@ -8,10 +8,10 @@ use Rattle.record_versions.specs.declared.version.VersionId.{VersionId}
 use Rattle.walk_rules.specs.Cells.{Cells, records}
 use Rattle.version_rules.specs.Meaning.{Meaning}
 use Rattle.walk_rules.specs.Memo.{Pairs, MemoRight}
-use Rattle.walk_rules.specs.Walks.{State, Parts, names_of, results_of, Took, with_hits}
+use Rattle.walk_rules.specs.Walks.{names_of}
 use Rattle.walk_rules.specs.Rights.{HasCells, AreRight, IsResult}
 use Rattle.walk_rules.proofs.KeptRight.{Right, hits_right}
-use Rattle.walk_rules.proofs.TookRight.{took_right, results_right, taken_part}
+use Rattle.walk_rules.proofs.TookRight.{took_right, taken_part}
 use Rattle.plan_walk.specs.declared.node.Node.{Node}
 use Rattle.plan_walk.specs.declared.round.Tally.{Tally}
 use Rattle.plan_walk.specs.Places.{parts_of}
@@ -34,4 +34,3 @@ module _ (m : Meaning) (cells : Cells) (nodes : List Node) (start : List (Option
       let took = took_right m cells sound.meant most (state_of nodes start first 0 0) begin_right results tally.dropped s.middle s.took sound.results_are in
       let after = hits_right m cells sound.meant (names_of s.middle.parts) s.middle (subst (AllByRecursion (HasCells cells)) (sym s.names) sound.has) took.0 in
       (subst (Right m cells) s.hits after).known
-

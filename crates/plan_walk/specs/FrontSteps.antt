@@ -1,5 +1,5 @@
 -- What the netting of a frontier needs of each part, and what it comes to.
-use Rattle.std.specs.Prelude.{◌≡◌, ℕ, List, Bool, true, Option, Some, map, length, slice_get}
+use Rattle.std.specs.Prelude.{◌≡◌, ℕ, List, true, Option, Some, map, length, slice_get}
 use Rattle.std.specs.List.{list_all, filter_map}
 use Rattle.plan_schema.specs.declared.name.Name.{Name}
 use Rattle.planning_rules.specs.Bills.{bills_of}

@@ -1,5 +1,5 @@
 -- The parts of a walk as the code holds them.
-use Rattle.std.specs.Prelude.{◌≡◌, ℕ, zero, suc, ◌<◌, List, [], ◌∷◌, Bool, true, ◌==◌, Option, Some, None, option_map, map, slice_get, length, unwrap_or}
+use Rattle.std.specs.Prelude.{◌≡◌, ℕ, zero, suc, ◌<◌, List, [], ◌∷◌, true, ◌==◌, Option, Some, option_map, map, slice_get, length, unwrap_or}
 use Rattle.std.specs.List.{AllByRecursion, list_any}
 use Rattle.std.specs.declared.sync.Arc.{Arc}
 use Rattle.plan_schema.specs.declared.name.Name.{Name}
@@ -11,7 +11,7 @@ use Rattle.walk_rules.specs.declared.key.MemoKey.{MemoKey}
 use Rattle.walk_rules.specs.Cells.{Cells, records, version_in}
 use Rattle.walk_rules.specs.Steps.{calendar_in}
 use Rattle.plan_walk.specs.declared.node.Node.{Node}
-use Rattle.plan_walk.specs.Places.{AreDistinct, StandAt, lists_at, parts_of}
+use Rattle.plan_walk.specs.Places.{AreDistinct, StandAt, parts_of}
 use Rattle.walk_rules.specs.Memo.{Pairs}
 use Rattle.walk_rules.specs.Walks.{State}
 
@@ -44,7 +44,7 @@ pub record IsGraph (nodes : List Node) : Type 0 where
 pub record Fits (cells : Cells) (plan : VersionId) (nodes : List Node) : Type 0 where
   pub plan_is : plan ≡ version_in cells names.Plan
   pub keyed : (i : ℕ) (node : Node) → slice_get nodes i ≡ Some node
-    → (node.part ≡ version_in cells (names.Part node.name)) × (node.calendar ≡ option_map (λ k. version_in cells (names.Cal k)) (calendar_in (records cells) node.name))
+      → (node.part ≡ version_in cells (names.Part node.name)) × (node.calendar ≡ option_map (λ k. version_in cells (names.Cal k)) (calendar_in (records cells) node.name))
   pub above : (i : ℕ) (n : Name) → slice_get (node_names nodes) i ≡ Some n → StandAt (node_names nodes) (ups_at nodes i) (parents (records cells) n)
 
 -- what the walk and the memo have come to

@@ -1,5 +1,5 @@
 -- Results that are taken in.
-use Rattle.std.specs.Prelude.{◌≡◌, ℕ, ◌+◌, List, Bool, true, false, Option, take, map, length}
+use Rattle.std.specs.Prelude.{◌≡◌, ℕ, ◌+◌, List, Bool, true, false, Option, take, map}
 use Rattle.std.specs.declared.sync.Arc.{Arc}
 use Rattle.plan_schema.specs.declared.name.Name.{Name}
 use Rattle.planning_rules.specs.Plan.{Known}
@@ -8,7 +8,7 @@ use Rattle.record_versions.specs.declared.version.VersionId.{VersionId}
 use Rattle.walk_rules.specs.declared.key.MemoKey.{MemoKey}
 use Rattle.walk_rules.specs.Cells.{Cells}
 use Rattle.walk_rules.specs.Memo.{Pairs, key_eq}
-use Rattle.walk_rules.specs.Walks.{State, Took}
+use Rattle.walk_rules.specs.Walks.{Took}
 use Rattle.plan_walk.specs.declared.node.Node.{Node}
 use Rattle.plan_walk.specs.Nodes.{Fits, state_of}
 

@@ -1,16 +1,15 @@
 -- What holds of walks.
-use Rattle.std.specs.Prelude.{◌≡◌, ℕ, ◌+◌, ◌<◌, ◌⊎◌, List, [], ◌∷◌, Bool, true, if◌then◌else◌, Some, map, length, slice_get}
+use Rattle.std.specs.Prelude.{◌≡◌, ℕ, ◌<◌, ◌⊎◌, List, [], true, if◌then◌else◌, Some, map, length, slice_get}
 use Rattle.std.specs.List.{AllByRecursion}
 use Rattle.plan_schema.specs.declared.name.Name.{Name}
 use Rattle.planning_rules.specs.Plan.{Known, has_calendar}
 use Rattle.planning_rules.specs.Refused.{is_part}
-use Rattle.plan_schema.specs.Contents.{Contents}
 use Rattle.record_versions.specs.declared.version.VersionId.{VersionId}
 use Rattle.walk_rules.specs.Cells.{Cells, records}
 use Rattle.walk_rules.specs.Memo.{Pairs}
 use Rattle.walk_rules.specs.Rights.{HasCells, AreRight}
 use Rattle.walk_rules.specs.Steps.{calendar_in}
-use Rattle.walk_rules.specs.Walks.{Parts, State, names_of, frontier, results_of, is_empty, IsSettled, Took, with_hits}
+use Rattle.walk_rules.specs.Walks.{State, names_of, frontier, results_of, is_empty, IsSettled, Took, with_hits}
 use Rattle.plan_jobs.specs.declared.job.Job.{Job}
 use Rattle.plan_jobs.specs.Jobs.{IsJob}
 use Rattle.plan_walk.specs.declared.node.Node.{Node}

@@ -19,10 +19,10 @@ ghost use Rattle.shared_memo.specs.Pairs.{memo as memo_of, in_front};
 use crate::node::{Node, is_ready_at, key_at};
 use crate::waiting::Waiting;
 use plan_schema::Known;
+use record_versions::VersionId;
 use shared_memo::Memo;
 use std::alloc::{AllocError, Global};
 use std::sync::Arc;
-use record_versions::VersionId;
 use walk_rules::MemoKey;
 
 /// What the memo holds under a key, if anything.
@@ -40,10 +40,7 @@ fn found_in(
 }
 
 /// What the memo holds under a key, if anything. A right memo stays right.
-fn taken(
-    memo: &mut Memo<MemoKey, Known>,
-    key: &MemoKey,
-) -> Result<Option<Arc<Known>>, AllocError>
+fn taken(memo: &mut Memo<MemoKey, Known>, key: &MemoKey) -> Result<Option<Arc<Known>>, AllocError>
     ensures found { IfOk result (λ o. option_map arc_value o ≡ lookup (key_eq key.now) memo.old.pairs) }
     ensures front { memo.new ≡ memo_of (in_front (key_eq key.now) memo.old.pairs) memo.old.most }
     ensures right { (m : Meaning) → MemoRight m memo.old.pairs → MemoRight m memo.new.pairs }
@@ -126,16 +123,7 @@ pub fn take_hits(
         if !is_ready_at(known, node, place) {
             continue;
         }
-        let hit = look_up(
-            alloc,
-            plan,
-            node,
-            place,
-            known,
-            &mut waiting,
-            front,
-            memo,
-        )?;
+        let hit = look_up(alloc, plan, node, place, known, &mut waiting, front, memo)?;
         if hit {
             reused += 1;
         }

@@ -8,9 +8,9 @@ ghost use Rattle.plan_walk.specs.Places.{known_in, ready_at, lists_at};
 ghost use Rattle.plan_walk.specs.Nodes.{node_key, shown};
 
 use plan_schema::{Known, Name, Release, Series};
+use record_versions::VersionId;
 use std::alloc::{AllocError, Global};
 use std::sync::Arc;
-use record_versions::VersionId;
 use walk_rules::MemoKey;
 
 /// A part of a walk: the versions of its cells, and the places of its parents and of its components.

@@ -12,10 +12,10 @@ use crate::hits::let_wait;
 use crate::node::{Node, key_at};
 use crate::waiting::Waiting;
 use plan_schema::{Known, Name};
+use record_versions::VersionId;
 use shared_memo::Memo;
 use std::alloc::{AllocError, Global};
 use std::sync::Arc;
-use record_versions::VersionId;
 use walk_rules::MemoKey;
 
 /// Makes a result known and puts it into the memo; tells whether the memo dropped it.

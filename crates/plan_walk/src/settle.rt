@@ -12,13 +12,13 @@ ghost use Rattle.plan_walk.specs.Settled.{SettledBy, AreSound};
 use crate::hits::take_hits;
 use crate::node::Node;
 use crate::results::take_results;
-use crate::waiting::Waiting;
 use crate::round::Tally;
+use crate::waiting::Waiting;
 use plan_schema::{Known, Name};
+use record_versions::VersionId;
 use shared_memo::Memo;
 use std::alloc::{AllocError, Global};
 use std::sync::Arc;
-use record_versions::VersionId;
 use walk_rules::MemoKey;
 
 /// Takes results in and then all hits; the places of the parts that are to be netted next are put into `next`.
@@ -47,16 +47,7 @@ pub fn settle_parts(
 {
     let mut waiting = Waiting::new(alloc);
     let netted = solved.len() as u64;
-    let dropped = take_results(
-        alloc,
-        plan,
-        nodes,
-        front,
-        solved,
-        known,
-        &mut waiting,
-        memo,
-    )?;
+    let dropped = take_results(alloc, plan, nodes, front, solved, known, &mut waiting, memo)?;
     let reused = take_hits(alloc, plan, nodes, known, waiting, next, memo)?;
     Ok(Tally {
         netted,

@@ -1,9 +1,7 @@
-use Rattle.std.proofs.Common.{◌≡◌, ◌∙◌, ap, sym, subst, length, arith, true, ◌≤◌}
-use Rattle.std.specs.Prelude.{All}
+use Rattle.std.proofs.Common.{◌≡◌, ◌∙◌, ap, sym, length, arith}
 use Rattle.std.proofs.lemmas.List.FromFn.{length-map-range_with_len}
 use Rattle.plan_schema.specs.declared.key.Key.TheVariants as keys
 use Rattle.plan_schema.specs.Sound.{is_sound_row}
-use Rattle.planning_rules.specs.Netting.{exceeds}
 use Rattle.part_steps.proofs.Limits.{part_limits}
 use Rattle.part_steps.proofs.Nets.{within_limit}
 use Rattle.part_steps.proofs.steps.input.Goals as goal

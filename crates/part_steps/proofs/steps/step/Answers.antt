@@ -1,4 +1,4 @@
-use Rattle.std.proofs.Common.{◌∙◌, ap, sym, Err}
+use Rattle.std.proofs.Common.{ap, Err}
 use Rattle.part_steps.proofs.Nets.{gross_large}
 use Rattle.part_steps.proofs.steps.step.Goals as goal
 

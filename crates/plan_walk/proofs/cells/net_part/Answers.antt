@@ -1,12 +1,11 @@
-use Rattle.std.proofs.Common.{◌≡◌, ◌≤◌, ℕ, ◌∙◌, ap, sym, subst, length, arith, true, Some}
+use Rattle.std.proofs.Common.{◌≡◌, ℕ, ◌∙◌, ap, sym, subst, length, arith}
 use Rattle.std.specs.Prelude.{is_some}
 use Rattle.plan_schema.specs.declared.change.CellName.TheVariants as names
 use Rattle.plan_schema.specs.declared.key.Key.TheVariants as keys
-use Rattle.plan_schema.specs.Contents.{record_at}
 use Rattle.planning_rules.specs.Days.{horizon_of, works}
 use Rattle.planning_rules.specs.Plan.{has_calendar}
 use Rattle.walk_rules.specs.Cells.{records}
-use Rattle.walk_rules.specs.Steps.{calendar_of, calendar_in}
+use Rattle.walk_rules.specs.Steps.{calendar_of}
 use Rattle.explosion.specs.Sums.{AreReleases, bills_in}
 use Rattle.explosion.proofs.Own.{bills_own}
 use Rattle.part_steps.specs.Steps.{known_by}
@@ -68,4 +67,3 @@ returns-clause-known g c =
     let days = (ap (λ (p : ℕ × ℕ). p.1) (c.horizon-start.ensures.value ∙ ap horizon_of (record_of c.args.job.now.cells keys.Plan c.cell_in-plan.result.now (held_cell c.args.job.now.wanted c.args.job.now.cells names.Plan c.cell_in-plan.ensures.0 c.cell_in-plan.result.now c.requires.job c.cell_in-plan.ensures.1)))) in
     sym (step_from_cell (records c.args.job.now.cells) c.args.name.now c.args.releases.now c.requires.part.calendar)
     ∙ (λ i. known_by (held.rows_are i) c.args.name.now (sym start i) (sym days i) (sym works_are i) c.args.releases.now) ∙ c.in_ok-known.ensures.known
-

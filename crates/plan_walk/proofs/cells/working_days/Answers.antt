@@ -1,8 +1,7 @@
-use Rattle.std.proofs.Common.{◌≡◌, ◌∙◌, ap, sym, true, Some}
+use Rattle.std.proofs.Common.{◌∙◌, ap, sym, true}
 use Rattle.std.specs.Prelude.{replicate, is_some}
 use Rattle.plan_schema.specs.declared.change.CellName.TheVariants as names
 use Rattle.plan_schema.specs.declared.key.Key.TheVariants as keys
-use Rattle.plan_schema.specs.Contents.{record_at}
 use Rattle.planning_rules.specs.Days.{works}
 use Rattle.planning_rules.specs.Plan.{has_calendar}
 use Rattle.walk_rules.specs.Cells.{records}

@@ -1,7 +1,6 @@
-use Rattle.std.proofs.Common.{◌≡◌, ℕ, List, [], ◌∷◌, ◌++◌, ◌∙◌, ap, sym, subst, refl, length, get_or, true, Some}
+use Rattle.std.proofs.Common.{◌≡◌, ◌∙◌, ap, sym, subst, refl, length, get_or, true, Some}
 use Rattle.std.specs.Prelude.{slice_get}
 use Rattle.std.specs.List.{list_all}
-use Rattle.planning_rules.specs.Bills.{bills_of}
 use Rattle.planning_rules.specs.Days.{days_of}
 use Rattle.planning_rules.specs.Plan.{has_outcome}
 use Rattle.walk_rules.specs.Cells.{records}
@@ -43,7 +42,7 @@ net_part-requires-clause-lists g c =
     let there : slice_get c.args.nodes.now place ≡ Some node = at_index c.args.nodes.now place node node (c.requires.places at place here) c.index-nodes-place.is in
     let front = c.requires.parts at place node here there in
     let lists : c.as_slice-in-loop-place.result.now ≡ lists_at (shown c.args.known.now) node.ups.items =
-      c.as_slice-in-loop-place.ensures.value ∙ c.in_ok-releases.ensures ∙ ap (lists_at (shown c.args.known.now)) c.as_slice.ensures.value in
+    c.as_slice-in-loop-place.ensures.value ∙ c.in_ok-releases.ensures ∙ ap (lists_at (shown c.args.known.now)) c.as_slice.ensures.value in
     subst (AreReleases (days_of (records c.args.job.now.cells))) (sym lists) front.lists
 
 pub net_part-requires-clause-each : goal.net_part-requires-clause-each
@@ -55,7 +54,7 @@ net_part-requires-clause-each g c =
     let there : slice_get c.args.nodes.now place ≡ Some node = at_index c.args.nodes.now place node node (c.requires.places at place here) c.index-nodes-place.is in
     let front = c.requires.parts at place node here there in
     let lists : c.as_slice-in-loop-place.result.now ≡ lists_at (shown c.args.known.now) node.ups.items =
-      c.as_slice-in-loop-place.ensures.value ∙ c.in_ok-releases.ensures ∙ ap (lists_at (shown c.args.known.now)) c.as_slice.ensures.value in
+    c.as_slice-in-loop-place.ensures.value ∙ c.in_ok-releases.ensures ∙ ap (lists_at (shown c.args.known.now)) c.as_slice.ensures.value in
     front.each ∙ ap length (sym lists)
 
 pub loop-place-preserved : goal.loop-place-preserved
@@ -67,9 +66,8 @@ loop-place-preserved g c =
     let there : slice_get c.args.nodes.now place ≡ Some node = at_index c.args.nodes.now place node node (c.requires.places at place here) c.index-nodes-place.is in
     let front = c.requires.parts at place node here there in
     let lists : c.as_slice-in-loop-place.result.now ≡ lists_at (shown c.args.known.now) node.ups.items =
-      c.as_slice-in-loop-place.ensures.value ∙ c.in_ok-releases.ensures ∙ ap (lists_at (shown c.args.known.now)) c.as_slice.ensures.value in
+    c.as_slice-in-loop-place.ensures.value ∙ c.in_ok-releases.ensures ∙ ap (lists_at (shown c.args.known.now)) c.as_slice.ensures.value in
     let step : step_from (records c.args.job.now.cells) node.name (lists_at (shown c.args.known.now) node.ups.items) ≡ Some c.in_ok-value.value = ap (step_from (records c.args.job.now.cells) node.name) (sym lists) ∙ c.in_ok-value.ensures.known in
     net_more c.args.job.now.cells (parts_of (node_names c.args.nodes.now) (shown c.args.known.now)) (names_at (node_names c.args.nodes.now) c.args.front.now) at (told c.loop-place.results.items) (told c.push.new.self.items)
-      c.args.steps.now c.loop-place.steps c.net_part.new.steps node.name c.in_ok-value.value c.loop-place.invariant front.named (front.result c.in_ok-value.value step)
-      (ap told c.in_ok-push.ensures.items ∙ told_more c.loop-place.results.items node.name c.in_ok-shared.shared c.in_ok-value.value c.in_ok-shared.ensures.ok) c.in_ok-value.ensures.steps
-
+    c.args.steps.now c.loop-place.steps c.net_part.new.steps node.name c.in_ok-value.value c.loop-place.invariant front.named (front.result c.in_ok-value.value step)
+    (ap told c.in_ok-push.ensures.items ∙ told_more c.loop-place.results.items node.name c.in_ok-shared.shared c.in_ok-value.value c.in_ok-shared.ensures.ok) c.in_ok-value.ensures.steps

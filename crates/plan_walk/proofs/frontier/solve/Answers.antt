@@ -1,4 +1,4 @@
-use Rattle.std.proofs.Common.{◌≡◌, ℕ, List, ◌∙◌, ap, sym, subst, length}
+use Rattle.std.proofs.Common.{◌≡◌, List, ◌∙◌, sym, subst, length}
 use Rattle.walk_rules.specs.Cells.{records}
 use Rattle.walk_rules.specs.Rights.{AreRight}
 use Rattle.walk_rules.specs.Walks.{frontier}
@@ -21,5 +21,5 @@ net_front-requires-clause-parts g c =
     let exact : names_at (node_names nodes) front ≡ frontier (records job.cells) (parts_of (node_names nodes) (shown known)) = subst (λ (w : View). w.front ≡ frontier (records w.job.cells) w.parts) (sym c.walk.view_is) c.requires.open.front in
     let all = at_front job c.walk.inside.plan nodes (length known) front c.walk.invariant (shown known) (shown_long known ∙ c.walk.invariant.whole) right exact in
     subst (λ fs. AreAtFront job.cells c.as_slice-nodes.result.now (shown c.as_slice-known.result.now) fs) (sym c.as_slice-front.ensures.value)
-      (subst (λ ks. AreAtFront job.cells c.as_slice-nodes.result.now (shown ks) front) (sym c.as_slice-known.ensures.value)
-        (subst (λ (ns : List Node). AreAtFront job.cells ns (shown known) front) (sym c.as_slice-nodes.ensures.value) all))
+    (subst (λ ks. AreAtFront job.cells c.as_slice-nodes.result.now (shown ks) front) (sym c.as_slice-known.ensures.value)
+    (subst (λ (ns : List Node). AreAtFront job.cells ns (shown known) front) (sym c.as_slice-nodes.ensures.value) all))

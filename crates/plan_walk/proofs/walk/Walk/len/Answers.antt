@@ -1,14 +1,9 @@
-use Rattle.std.proofs.Common.{◌≡◌, ◌==◌, ℕ, arith, vec_len, ◌∙◌, ap, sym, subst, length}
-use Rattle.std.specs.Prelude.{Some, slice_get}
-use Rattle.walk_rules.specs.Walks.{known_at}
-use Rattle.plan_walk.specs.declared.node.Node.{Node}
-use Rattle.plan_walk.specs.Places.{parts_of, known_in}
+use Rattle.std.proofs.Common.{◌≡◌, arith, vec_len, ◌∙◌, ap, sym, length}
 use Rattle.plan_walk.specs.Nodes.{node_names, shown}
 use Rattle.plan_walk.specs.View.{View}
 use Rattle.plan_walk.proofs.Shown.{shown_long}
-use Rattle.plan_walk.proofs.Places.{known_place}
 use Rattle.plan_walk.proofs.SoFar.{names_long}
-use Rattle.plan_walk.proofs.Finding.{unknown_name, parts_long}
+use Rattle.plan_walk.proofs.Finding.{parts_long}
 use Rattle.plan_walk.proofs.walk.Walk.len.Goals as goal
 
 pub returns : goal.returns

@@ -1,0 +1,4 @@
+pub mod Days
+pub mod Limits
+pub mod Local
+pub mod Nets

@@ -1,0 +1,19 @@
+//! A walk over a plan: what is known of the parts that a question asks about, what the memo holds of them, and what is to be netted.
+#![tactic(auto)]
+
+mod cells;
+mod frontier;
+mod hits;
+mod node;
+mod results;
+mod round;
+mod settle;
+mod solved;
+mod waiting;
+mod walk;
+
+pub use frontier::solve;
+pub use round::{Round, Tally};
+pub use solved::Solved;
+pub use walk::Walk;
+pub use walk_names::Trouble;

@@ -1,0 +1,154 @@
+//! A walk over a plan.
+ghost use Rattle.std.specs.Prelude.{◌≡◌, ◌==◌, ◌+◌, ℕ, List, [], true, length, map, Some, IfOk, OnOk, MatchOption, slice_get};
+ghost use Rattle.std.specs.Option.{option_copied};
+ghost use Rattle.plan_schema.specs.declared.name.Name.{Name};
+ghost use Rattle.version_rules.specs.Meaning.{Meaning};
+ghost use Rattle.walk_rules.specs.Cells.{Stands};
+ghost use Rattle.walk_rules.specs.Memo.{MemoRight};
+ghost use Rattle.walk_rules.specs.Walks.{known_at};
+ghost use Rattle.plan_walk.specs.Nodes.{node_names, names_at};
+ghost use Rattle.plan_walk.specs.Walk.{IsOpen, IsSolved, Settles, EndsSettled, round_of};
+
+use crate::node::{Node, value_at};
+use crate::round::{Round, Tally};
+use crate::settle::settle_parts;
+use crate::solved::Solved;
+use plan_jobs::Job;
+use plan_schema::{Known, Name};
+use record_versions::VersionId;
+use shared_memo::Memo;
+use std::alloc::{AllocError, Global};
+use std::marker::Model;
+use std::sync::Arc;
+use walk_rules::MemoKey;
+
+/// A walk over a plan: its job, its parts by level and then by name with what is known of them, and which are to be netted next.
+/// The graph of the parts is made once.
+#[derive(Drop)]
+pub struct Walk {
+    pub(crate) alloc: Global,
+    pub(crate) job: Job,
+    pub(crate) plan: VersionId,
+    pub(crate) nodes: Vec<Node>,
+    pub(crate) known: Vec<Option<Arc<Known>>>,
+    pub(crate) front: Vec<usize>,
+}
+
+impl Model for Walk {
+    ghost use Rattle.std.specs.Prelude.{length};
+    ghost use Rattle.plan_walk.specs.View.{View};
+    ghost use Rattle.plan_walk.specs.Nodes.{node_names, names_at, shown};
+    ghost use Rattle.plan_walk.specs.Places.{parts_of};
+    ghost use Rattle.plan_walk.specs.Walk.{IsWalk};
+
+    ghost Value = { View };
+
+    ghost view = { λ w. record { job = w.job; parts = parts_of (node_names w.nodes.items) (shown w.known.items); front = names_at (node_names w.nodes.items) w.front.items } };
+
+    ghost invariant = { λ w. IsWalk w.job w.plan w.nodes.items (length w.known.items) w.front.items };
+}
+
+impl Walk {
+    /// Makes results known and puts each into the memo, and then takes all hits from it. Where there is no memory for it, the walk can
+    /// only be dropped; the memo stays right.
+    pub fn settle(
+        &mut self,
+        memo: &mut Memo<MemoKey, Known>,
+        solved: Solved,
+    ) -> Result<(Round, Tally), AllocError>
+        requires open { IsOpen self.old }
+        requires solved { IsSolved self.old solved }
+        requires meant { (m : Meaning) × MemoRight m memo.old.pairs × Stands m self.old.job.cells }
+        ensures settles { IfOk result (λ r. Settles self.old self.new memo.old.pairs memo.new.pairs memo.old.most solved r.0 r.1) }
+        ensures ends { IfOk result (λ r. EndsSettled self.new r.0) }
+        ensures open { OnOk result (IsOpen self.new) }
+        ensures job { self.new.job ≡ self.old.job }
+        ensures most { memo.new.most ≡ memo.old.most }
+        ensures right { (m : Meaning) → MemoRight m memo.old.pairs → Stands m self.old.job.cells → MemoRight m memo.new.pairs }
+    {
+        let mut next = Vec::new(self.alloc);
+        let tally = settle_parts(
+            self.alloc,
+            &self.plan,
+            self.nodes.as_slice(),
+            self.front.as_slice(),
+            solved.results.as_slice(),
+            self.known.as_mut_slice(),
+            &mut next,
+            memo,
+        )?;
+        let round = round_after(next.as_slice());
+        self.front = next;
+        Ok((round, tally))
+    }
+
+    /// The question that the walk is for, with its cells.
+    pub fn job(&self) -> &Job
+        ensures { result.now ≡ self.now.job }
+    {
+        &self.job
+    }
+
+    /// How many parts the walk has.
+    pub fn len(&self) -> usize
+        ensures { result ≡ length self.now.parts }
+    {
+        self.nodes.len()
+    }
+
+    /// Whether the walk has no parts.
+    pub fn is_empty(&self) -> bool
+        ensures { result ≡ (length self.now.parts == 0) }
+    {
+        self.nodes.is_empty()
+    }
+
+    /// How many parts are to be netted next.
+    pub fn frontier_len(&self) -> usize
+        ensures { result ≡ length self.now.front }
+    {
+        self.front.len()
+    }
+
+    /// The part that is to be netted at a place of the frontier, from 0.
+    pub fn frontier_at(&self, place: usize) -> Option<&Name>
+        ensures { option_copied result ≡ slice_get self.now.front place }
+    {
+        let at = *self.front.get(place)?;
+        Some(&self.nodes[at].name)
+    }
+
+    /// What is known of a part. It goes over all parts.
+    pub fn known(&self, name: &Name) -> Option<&Known>
+        ensures { option_copied result ≡ known_at self.now.parts name.now }
+    {
+        match place_of(self.nodes.as_slice(), name) {
+            Some(place) => value_at(self.known.as_slice(), place),
+            None => None,
+        }
+    }
+}
+
+/// The place of a name among those of nodes.
+fn place_of(nodes: &[Node], name: &Name) -> Option<usize>
+    ensures { MatchOption result ((k : ℕ) → slice_get (node_names nodes.now) k ≡ Some name.now → ⊥)
+        (λ place. slice_get (node_names nodes.now) place ≡ Some name.now) }
+{
+    for (place, node) in nodes.iter().enumerate() {
+        if node.name == *name {
+            return Some(place);
+        }
+    }
+    None
+}
+
+/// Whether a walk with this frontier is at its end.
+fn round_after(front: &[usize]) -> Round
+    ensures { (ns : List Name) → result ≡ round_of (names_at ns front.now) }
+{
+    if front.is_empty() {
+        Round::Done
+    } else {
+        Round::More
+    }
+}

@@ -1,0 +1,5 @@
+pub mod JobCells
+pub mod Same
+pub mod Least
+pub mod Refusing
+pub mod Rows

@@ -1,0 +1,11 @@
+//! The names of a walk over a plan: those in reach of the asked ones, by level and then by name; or why the plan is refused.
+#![tactic(auto)]
+
+mod asked;
+mod bills;
+mod names;
+mod refusals;
+mod trouble;
+
+pub use names::names_by_level;
+pub use trouble::Trouble;

@@ -1,1 +1,2 @@
 pub mod Pegged
+pub mod Local

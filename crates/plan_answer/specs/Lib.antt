@@ -1,3 +1,5 @@
 pub mod Asks
 pub mod Replies
 pub mod Laws
+pub mod Planned
+pub mod ParentLists

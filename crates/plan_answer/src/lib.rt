@@ -4,6 +4,9 @@
 mod ask;
 mod laws;
 mod lines;
+mod pegged;
+mod planned;
+mod plans;
 mod records;
 mod still;
 mod want;
@@ -11,6 +14,7 @@ mod want;
 pub use ask::{Ask, ask_of, uses_plan};
 pub use laws::questions_are_answered;
 pub use lines::{peg_lines, plan_lines, promise_lines};
+pub use plans::from_plans;
 pub use records::shown_rows;
 pub use still::from_records;
 pub use want::wanted;

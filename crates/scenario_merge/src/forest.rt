@@ -26,8 +26,8 @@ use crate::tree::access;
 use plan_schema::{Change, Contents, Key, Name, Record, Refusal};
 use record_versions::{IdSet, Ids, Store};
 use scenario_cells::{
-    Held, based, branched, change_row, changed_rows, given, is_root, lay_all, regroup,
-    root_held, root_name, settled, shared,
+    Held, based, branched, change_row, changed_rows, given, is_root, lay_all, regroup, root_held,
+    root_name, settled, shared,
 };
 use std::alloc::{AllocError, Global};
 use std::collections::BTreeMap;

@@ -16,7 +16,6 @@ ghost use Rattle.scenario_rules.specs.Refused.{named, scenario_refusal, at_root}
 ghost use Rattle.record_versions.specs.Versions.{cell_at};
 ghost use Rattle.version_rules.specs.Meaning.{Meaning};
 ghost use Rattle.scenario_merge.specs.Grown.{world_by, IsForest};
-ghost use Rattle.scenario_rules.specs.Refused as rules;
 ghost use Rattle.scenario_cells.specs.Room.{refused_contents};
 
 use crate::tree::{
@@ -123,7 +122,7 @@ fn del_refusal(
 ) -> Option<Refusal>
     requires forest { IsForest scenarios.now.entries store.now }
     requires there { IsSome (scenario_at (world_by (cell_at store.now) scenarios.now.entries) name.now) }
-    ensures { result ≡ rules.later_refusal (world_by (cell_at store.now) scenarios.now.entries) user.now (changes.Del name.now key.now) }
+    ensures { result ≡ refused.later_refusal (world_by (cell_at store.now) scenarios.now.entries) user.now (changes.Del name.now key.now) }
 {
     let _user = user;
     if let Some(refusal) = no_record(scenarios, store, name, key) {
@@ -142,7 +141,7 @@ fn branch_refusal(
 ) -> Option<Refusal>
     requires forest { IsForest scenarios.now.entries store.now }
     requires there { IsSome (scenario_at (world_by (cell_at store.now) scenarios.now.entries) parent.now) }
-    ensures { result ≡ rules.later_refusal (world_by (cell_at store.now) scenarios.now.entries) user.now (changes.Branch parent.now child.now) }
+    ensures { result ≡ refused.later_refusal (world_by (cell_at store.now) scenarios.now.entries) user.now (changes.Branch parent.now child.now) }
 {
     let _store = store;
     let _user = user;
@@ -159,7 +158,7 @@ fn branch_refusal(
 fn share_refusal(scenarios: &Scenarios, store: &Store, user: &Name, name: &Name) -> Option<Refusal>
     requires forest { IsForest scenarios.now.entries store.now }
     requires there { IsSome (scenario_at (world_by (cell_at store.now) scenarios.now.entries) name.now) }
-    ensures { result ≡ rules.later_refusal (world_by (cell_at store.now) scenarios.now.entries) user.now (changes.Share name.now) }
+    ensures { result ≡ refused.later_refusal (world_by (cell_at store.now) scenarios.now.entries) user.now (changes.Share name.now) }
 {
     let _store = store;
     if let Some(refusal) = denied_unowned(scenarios, user, name) {
@@ -172,7 +171,7 @@ fn share_refusal(scenarios: &Scenarios, store: &Store, user: &Name, name: &Name)
 fn update_refusal(scenarios: &Scenarios, store: &Store, user: &Name, name: &Name) -> Option<Refusal>
     requires forest { IsForest scenarios.now.entries store.now }
     requires there { IsSome (scenario_at (world_by (cell_at store.now) scenarios.now.entries) name.now) }
-    ensures { result ≡ rules.later_refusal (world_by (cell_at store.now) scenarios.now.entries) user.now (changes.Update name.now) }
+    ensures { result ≡ refused.later_refusal (world_by (cell_at store.now) scenarios.now.entries) user.now (changes.Update name.now) }
 {
     if let Some(refusal) = denied_above(scenarios, user, name) {
         return Some(refusal);
@@ -187,7 +186,7 @@ fn update_refusal(scenarios: &Scenarios, store: &Store, user: &Name, name: &Name
 fn commit_refusal(scenarios: &Scenarios, store: &Store, user: &Name, name: &Name) -> Option<Refusal>
     requires forest { IsForest scenarios.now.entries store.now }
     requires there { IsSome (scenario_at (world_by (cell_at store.now) scenarios.now.entries) name.now) }
-    ensures { result ≡ rules.later_refusal (world_by (cell_at store.now) scenarios.now.entries) user.now (changes.Commit name.now) }
+    ensures { result ≡ refused.later_refusal (world_by (cell_at store.now) scenarios.now.entries) user.now (changes.Commit name.now) }
 {
     if let Some(refusal) = denied_above(scenarios, user, name) {
         return Some(refusal);
@@ -204,7 +203,7 @@ fn commit_refusal(scenarios: &Scenarios, store: &Store, user: &Name, name: &Name
 /// Why a DROP is refused.
 fn drop_refusal(scenarios: &Scenarios, store: &Store, user: &Name, name: &Name) -> Option<Refusal>
     requires { IsForest scenarios.now.entries store.now }
-    ensures { result ≡ rules.later_refusal (world_by (cell_at store.now) scenarios.now.entries) user.now (changes.Drop name.now) }
+    ensures { result ≡ refused.later_refusal (world_by (cell_at store.now) scenarios.now.entries) user.now (changes.Drop name.now) }
 {
     let _store = store;
     if let Some(refusal) = denied_unowned(scenarios, user, name) {
@@ -257,7 +256,7 @@ fn later_refusal(
 ) -> Option<Refusal>
     requires forest { IsForest scenarios.now.entries store.now }
     requires there { IsSome (scenario_at (world_by (cell_at store.now) scenarios.now.entries) (named change.now)) }
-    ensures { result ≡ rules.later_refusal (world_by (cell_at store.now) scenarios.now.entries) user.now change.now }
+    ensures { result ≡ refused.later_refusal (world_by (cell_at store.now) scenarios.now.entries) user.now change.now }
 {
     match change {
         Change::Put { scenario, key, .. } => room_for_one(scenarios, store, scenario, key, true),

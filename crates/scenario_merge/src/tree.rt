@@ -16,7 +16,6 @@ ghost use Rattle.scenario_rules.specs.Refused.{named, scenario_refusal, at_root}
 ghost use Rattle.record_versions.specs.Versions.{cell_at};
 ghost use Rattle.version_rules.specs.Meaning.{Meaning};
 ghost use Rattle.scenario_merge.specs.Grown.{world_by, IsForest};
-ghost use Rattle.scenario_rules.specs.Refused as rules;
 ghost use Rattle.scenario_cells.specs.Room.{refused_contents};
 
 use plan_schema::limits::{DEPTH_LIMIT, SCENARIO_LIMIT};

@@ -371,9 +371,13 @@ impl Forest {
 
 // The row of a scenario that is held.
 fn tree_row(name: &Name, held: &Held) -> TreeRow
-    ensures { result ≡ record
-        { name = name.now; parent = held.now.parent; owner = held.now.owner; private =
-        held.now.private } }
+    ensures { result ≡ record {
+      name = name.now;
+      parent = held.now.parent;
+      owner = held.now.owner;
+      private =
+          held.now.private;
+    } }
 {
     TreeRow {
         name: *name,

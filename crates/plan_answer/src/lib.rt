@@ -5,10 +5,12 @@ mod ask;
 mod laws;
 mod lines;
 mod records;
+mod still;
 mod want;
 
 pub use ask::{Ask, ask_of, uses_plan};
 pub use laws::questions_are_answered;
 pub use lines::{peg_lines, plan_lines, promise_lines};
 pub use records::shown_rows;
+pub use still::from_records;
 pub use want::wanted;

@@ -3,3 +3,5 @@ pub mod Same
 pub mod Least
 pub mod Refusing
 pub mod Rows
+pub mod Leveled
+pub mod Looking

@@ -69,10 +69,14 @@ module _ (c : Contents) (asked : List Name) where
     pub reach_least : (test : Name → Bool) → least_name test closed ≡ least_name test (in_reach c asked)
     reach_least test = least_same test closed (in_reach c asked) closed_in in_closed
 
+    -- and the one that has no levels is the least in reach that is its own ancestor
+    pub cyclic_least : (n : Name) → WhereCyclic (filter_map bill_pair c) closed (faults.Cyclic n) → least_name (is_cyclic c) (in_reach c asked) ≡ Some n
+    cyclic_least n h = sym (reach_least (is_cyclic c)) ∙ sym (λ i. least_name (λ m. ancestor_same c m m i) closed) ∙ h
+
     pub fault_refused : (point : ℕ) (fault : LevelFault) → least_name no_part asked ≡ None → least_name no_part (in_reach c asked) ≡ None → least_name no_calendar (in_reach c asked) ≡ None
         → WhereCyclic (filter_map bill_pair c) closed fault → IsTrouble c asked point (fault_trouble point fault)
     fault_refused point (faults.Cyclic n) a b d h =
-        (refl, fourth (Some n) a b d (sym (reach_least (is_cyclic c)) ∙ sym (λ i. least_name (λ m. ancestor_same c m m i) closed) ∙ h))
+        (refl, fourth (Some n) a b d (cyclic_least n h))
     fault_refused point faults.Memory a b d h = tt
 
     module _ (levels : List (Name × ℕ)) (l : AreLevels (filter_map bill_pair c) closed levels) where
@@ -81,10 +85,10 @@ module _ (c : Contents) (asked : List Name) where
       pair_of n (pair ∷ ls) h (inl e) = (pair.1, sym (level_same c n) ∙ ap (level (as_records (filter_map bill_pair c))) (sym e) ∙ h.0)
       pair_of n (pair ∷ ls) h (inr i) = pair_of n ls h.1 i
 
-      has_level : (n : Name) → IsIn n (in_reach c asked) → (k : ℕ) × (level c n ≡ Some k)
+      pub has_level : (n : Name) → IsIn n (in_reach c asked) → (k : ℕ) × (level c n ≡ Some k)
       has_level n i = pair_of n levels l.each (in_contained (map (λ (pair : Name × ℕ). pair.0) levels) n ((l.members n).0 (contained_in closed n (in_closed n i))))
 
-      none_cyclic : least_name (is_cyclic c) (in_reach c asked) ≡ None
+      pub none_cyclic : least_name (is_cyclic c) (in_reach c asked) ≡ None
       none_cyclic = by_cases (least_name (is_cyclic c) (in_reach c asked)) refl
         where
           by_cases : (o : Option Name) → least_name (is_cyclic c) (in_reach c asked) ≡ o → o ≡ None

@@ -10,7 +10,7 @@ use Rattle.plan_schema.specs.Key.{name_cmp}
 use Rattle.plan_schema.specs.Refusals.{first_of, about}
 use Rattle.plan_schema.specs.Contents.{Contents, record_at}
 use Rattle.planning_rules.specs.Bills.{level}
-use Rattle.planning_rules.specs.Refused.{least_name, is_part, lacks_calendar, is_cyclic, in_reach}
+use Rattle.planning_rules.specs.Refused.{least_name, is_part, lacks_calendar, is_cyclic, in_reach, level_refusal}
 use Rattle.low_level_codes.specs.declared.fault.LevelFault.{LevelFault}
 use Rattle.low_level_codes.specs.declared.fault.LevelFault.TheVariants as faults
 use Rattle.walk_names.specs.declared.trouble.Trouble.{Trouble}
@@ -48,6 +48,11 @@ pub record AreWalkNames (c : Contents) (asked names : List Name) : Type 0 where
 abbrev pub IsTrouble : Contents → List Name → ℕ → Trouble → Type 0
 IsTrouble c asked point (Refused at refusal) = (at ≡ point) × (first_four c asked ≡ Some refusal)
 IsTrouble c asked point Memory = Unit {0}
+
+-- the refusal of a question for a level, with the job's point; want of memory says nothing
+abbrev pub IsLevelTrouble : Contents → Name → ℕ → Trouble → Type 0
+IsLevelTrouble c part point (Refused at refusal) = (at ≡ point) × (level_refusal c part ≡ Some refusal)
+IsLevelTrouble c part point Memory = Unit {0}
 
 -- what names without levels come to
 abbrev pub fault_trouble : ℕ → LevelFault → Trouble

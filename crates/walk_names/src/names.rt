@@ -37,7 +37,7 @@ fn by_level(alloc: Global, bills: &[(Name, Name)], names: &[Name]) -> Result<Vec
 }
 
 /// The trouble that names without levels make.
-fn trouble_of(point: u64, fault: LevelFault) -> Trouble
+pub fn trouble_of(point: u64, fault: LevelFault) -> Trouble
     ensures { result ≡ fault_trouble point fault }
 {
     match fault {

@@ -24,7 +24,7 @@ fn record_in<'a>(job: &'a Job, cell: &CellName, key: &Key) -> Option<&'a Record>
 }
 
 /// Whether a name is a part.
-fn is_part_in(job: &Job, name: &Name) -> bool
+pub fn is_part_in(job: &Job, name: &Name) -> bool
     requires { IsJob job.now.wanted job.now.cells }
     ensures { result ≡ is_part (records job.now.cells) name.now }
 {

@@ -1,13 +1,12 @@
 -- How many parts and records there are after a change of one record, and that contents are still a base.
-use Rattle.std.proofs.Common.{◌≡◌, ℕ, ◌+◌, ◌≤◌, length, refl, sym, ◌∙◌, ap, Bool, true, false, cond, ◌&&◌, nat_le, arith}
+use Rattle.std.proofs.Common.{◌≡◌, ℕ, ◌+◌, ◌≤◌, length, sym, ◌∙◌, ap, Bool, true, false, cond, ◌&&◌, nat_le, arith}
 use Rattle.std.proofs.lemmas.Bool.{and_parts, and_from}
 use Rattle.std.proofs.lemmas.Bool.Decides.{nat_tests}
 use denote.Bor.{Bor}
 use Rattle.std.specs.Option.{option_copied}
-use Rattle.std.specs.Prelude.{Option, Some, None, is_some, count_by}
+use Rattle.std.specs.Prelude.{Option, Some, None, is_some}
 use Rattle.std.specs.BTreeMap.{is_at}
 use Rattle.plan_schema.specs.declared.key.Key.{Key}
-use Rattle.plan_schema.specs.declared.key.Key.TheVariants as keys
 use Rattle.plan_schema.specs.declared.key.Record.{Record}
 use Rattle.plan_schema.specs.Key.{key_cmp}
 use Rattle.plan_schema.specs.Base.{is_base, is_part_key, part_count, has_horizon}

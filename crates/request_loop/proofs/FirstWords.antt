@@ -1,7 +1,6 @@
 -- The first words of a line tell what it is read as.
-use Rattle.std.proofs.Common.{◌≡◌, ℕ, Bool, true, false, ◌&&◌, cond, List, [], ◌∷◌, take, Some, Result, Ok, Err, refl, sym, ap, ◌∙◌, arith}
+use Rattle.std.proofs.Common.{◌≡◌, ℕ, Bool, true, false, ◌&&◌, cond, List, [], ◌∷◌, take, Some, Result, Err, refl, sym, ap, ◌∙◌, arith}
 use Rattle.std.specs.Prelude.{codes}
-use Rattle.std.specs.List.{slice_get}
 use Rattle.plan_schema.specs.declared.key.Key.{Key}
 use Rattle.plan_schema.specs.declared.key.Record.{Record}
 use Rattle.plan_schema.specs.declared.fault.Rule.TheVariants.{Shape}
@@ -10,8 +9,6 @@ use Rattle.row_text.specs.Open.{is_closed_word, open_row_of}
 use Rattle.row_text.proofs.Fewer.{get_few, row_few}
 use Rattle.command_words.specs.Commands.{command_of}
 use Rattle.command_words.specs.Words.{words_of, first_words}
-use Rattle.command_words.specs.declared.command.Command.{Command}
-use Rattle.command_words.specs.declared.reply.Bad.{Bad}
 use Rattle.command_words.specs.declared.reply.Bad.TheVariants as bads
 use Rattle.session_rules.specs.Requests.{is_one_of, is_served, is_closed, closed_fault, open_reading, reading, in_row, row_reading}
 

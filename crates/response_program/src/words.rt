@@ -46,7 +46,11 @@ fn names_of<'a>(
         ≡ spec.is_run_of command.now base.now journal.now input.now output.now }
     ensures names { IfSome result
         (λ names. names_of names
-        ≡ record { base = base.now; journal = journal.now; input = input.now; output = output.now
+        ≡ record {
+          base = base.now;
+          journal = journal.now;
+          input = input.now;
+          output = output.now;
         }) }
 {
     if command == "run"

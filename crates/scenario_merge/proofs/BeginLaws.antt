@@ -1,6 +1,6 @@
 -- The forest that begins: the root alone, with its records in cells.
 use Rattle.std.proofs.Common.{◌≡◌, ℕ, List, [], ◌∷◌, refl, sym, ◌∙◌, ap, subst, Bool, true, false, cond, length}
-use Rattle.std.specs.Prelude.{Some, None, unwrap_or, count_by, if◌then◌else◌}
+use Rattle.std.specs.Prelude.{Some, None, unwrap_or, if◌then◌else◌}
 use Rattle.plan_schema.specs.declared.name.Name.{Name}
 use Rattle.plan_schema.specs.Key.{name_eq}
 use Rattle.plan_schema.specs.Base.{part_count}

@@ -1,6 +1,6 @@
 -- BRANCH: a new scenario over what its parent holds.
 use Rattle.std.proofs.Common.{◌≡◌, [], refl, sym, ◌∙◌, ap, subst, true, ℕ, length}
-use Rattle.std.specs.Prelude.{Some, count_by}
+use Rattle.std.specs.Prelude.{Some}
 use Rattle.std.specs.BTreeMap.{insert_entry}
 use Rattle.plan_schema.specs.declared.name.Name.{Name}
 use Rattle.plan_schema.specs.declared.change.Change.TheVariants as changes

@@ -1,6 +1,6 @@
 -- COMMIT: a parent takes the own changes of a child, and both have equal contents.
 use Rattle.std.proofs.Common.{◌≡◌, ℕ, [], refl, sym, ◌∙◌, ap, subst, Bool, true, false, cond, length}
-use Rattle.std.specs.Prelude.{Some, if◌then◌else◌, IsSome, count_by, unwrap_or}
+use Rattle.std.specs.Prelude.{Some, if◌then◌else◌, IsSome, unwrap_or}
 use Rattle.std.specs.Option.{option_map}
 use Rattle.std.specs.BTreeMap.{insert_entry}
 use Rattle.std.specs.FinMap.{is_sorted}

@@ -1,6 +1,6 @@
 -- The first refusal, line after line.
 use Rattle.std.proofs.Common.{◌≡◌, List, [], ◌∷◌, refl, sym, ◌∙◌, ap, subst, Bool, true, false, length}
-use Rattle.std.specs.Prelude.{Option, Some, None, is_none, IsSome, unwrap_or, count_by}
+use Rattle.std.specs.Prelude.{Option, Some, None, is_none, IsSome, unwrap_or}
 use Rattle.plan_schema.specs.declared.name.Name.{Name}
 use Rattle.plan_schema.specs.declared.change.Change.{Change}
 use Rattle.plan_schema.specs.declared.change.Change.TheVariants as changes

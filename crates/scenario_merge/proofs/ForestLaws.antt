@@ -1,7 +1,7 @@
 -- A forest after the store has new cells, and after a scenario has changed.
 use Rattle.std.proofs.Common.{◌≡◌, ◌≢◌, ℕ, ◌<◌, List, [], ◌∷◌, refl, sym, ◌∙◌, ap, subst, Bool, true, false, cond, ◌&&◌, arith, length}
 use Rattle.std.specs.declared.cmp.Ordering.{Ordering}
-use Rattle.std.specs.Prelude.{Result, Ok, Err, OnErr, count_by, Option, Some, None, if◌then◌else◌, unwrap_or, IsSome}
+use Rattle.std.specs.Prelude.{Result, Ok, Err, OnErr, Option, Some, None, if◌then◌else◌, unwrap_or, IsSome}
 use Rattle.std.specs.Option.{option_map}
 use Rattle.std.specs.List.{AllByRecursion}
 use Rattle.std.specs.Ordering.{is_lt}

@@ -1,6 +1,6 @@
 -- A forest after a scenario is put under a name, and what an update puts there.
 use Rattle.std.proofs.Common.{◌≡◌, ℕ, [], refl, sym, ◌∙◌, ap, subst, Bool, true, false, cond, length}
-use Rattle.std.specs.Prelude.{Some, if◌then◌else◌, count_by, unwrap_or}
+use Rattle.std.specs.Prelude.{Some, if◌then◌else◌, unwrap_or}
 use Rattle.std.specs.Option.{option_map}
 use Rattle.std.specs.BTreeMap.{insert_entry}
 use Rattle.plan_schema.specs.declared.name.Name.{Name}

@@ -26,8 +26,8 @@ use crate::tree::access;
 use plan_schema::{Change, Contents, Key, Name, Record, Refusal};
 use record_versions::{IdSet, Ids, Store};
 use scenario_cells::{
-    Held, based, branched, change_row, changed_rows, given, is_root, lay_all, regroup,
-    root_held, root_name, settled, shared,
+    Held, based, branched, change_row, changed_rows, given, is_root, lay_all, regroup, root_held,
+    root_name, settled, shared,
 };
 use std::alloc::{AllocError, Global};
 use std::collections::BTreeMap;
@@ -105,7 +105,9 @@ impl Forest {
     /// The ids of the contents of a scenario that is there.
     pub fn ids(&self, name: &Name) -> Option<&Ids>
         ensures there { is_some result ≡ is_some (scenario_at self.now.world name.now) }
-        ensures ids { IfSome result (λ ids. (cell : CellName) → id_at ids.now cell ≡ (ids_in self.now name.now).contents cell) }
+        ensures ids { IfSome result
+            (λ ids. (cell : CellName) → id_at ids.now cell
+            ≡ (ids_in self.now name.now).contents cell) }
     {
         match self.scenarios.get(name) {
             Some(held) => Some(&held.ids),
@@ -116,7 +118,8 @@ impl Forest {
     /// The ids of the base of a scenario that is there: of what its parent held when it was branched, last updated or last committed.
     pub fn base_ids(&self, name: &Name) -> Option<&Ids>
         ensures there { is_some result ≡ is_some (scenario_at self.now.world name.now) }
-        ensures ids { IfSome result (λ ids. (cell : CellName) → id_at ids.now cell ≡ (ids_in self.now name.now).base cell) }
+        ensures ids { IfSome result
+            (λ ids. (cell : CellName) → id_at ids.now cell ≡ (ids_in self.now name.now).base cell) }
     {
         match self.scenarios.get(name) {
             Some(held) => Some(&held.base),
@@ -186,8 +189,10 @@ impl Forest {
         requires sound { is_sound_change change.now ≡ true }
         ensures free { IsOk result → scenario_refusal self.old.world user.now change.now ≡ None }
         ensures world { OnOk result (self.new.world ≡ step self.old.world user.now change.now) }
-        ensures ids { OnOk result (ids_in self.new ≡ step_ids point self.old.world (ids_in self.old) change.now) }
-        ensures fault { IfErr result (λ fault. IsAnswered (scenario_refusal self.old.world user.now change.now) fault) }
+        ensures ids { OnOk result
+            (ids_in self.new ≡ step_ids point self.old.world (ids_in self.old) change.now) }
+        ensures fault { IfErr result
+            (λ fault. IsAnswered (scenario_refusal self.old.world user.now change.now) fault) }
         ensures err { OnErr result (IsAsBefore self.old self.new) }
     {
         self.holds();
@@ -237,9 +242,11 @@ impl Forest {
         value: &Option<Record>,
     ) -> Result<(), AllocError>
         requires there { IsSome (scenario_at self.old.world name.now) }
-        requires whole { IsWhole (with_changes self.old.world name.now ((key.now, value.now) ∷ [])) }
+        requires whole { IsWhole
+            (with_changes self.old.world name.now ((key.now, value.now) ∷ [])) }
         requires older { AreOlder point (ids_in self.old) }
-        ensures ok { OnOk result (IsAfterChanges point name.now ((key.now, value.now) ∷ []) self.old self.new) }
+        ensures ok { OnOk result
+            (IsAfterChanges point name.now ((key.now, value.now) ∷ []) self.old self.new) }
         ensures err { OnErr result (IsAsBefore self.old self.new) }
     {
         let Some(held) = self.scenarios.get_mut(name) else {
@@ -254,7 +261,8 @@ impl Forest {
         requires some { 0 < length rows.now }
         requires whole { IsWhole (with_changes self.old.world name.now (all_put rows.now)) }
         requires older { AreOlder point (ids_in self.old) }
-        ensures ok { OnOk result (IsAfterChanges point name.now (all_put rows.now) self.old self.new) }
+        ensures ok { OnOk result
+            (IsAfterChanges point name.now (all_put rows.now) self.old self.new) }
         ensures err { OnErr result (IsAsBefore self.old self.new) }
     {
         let Some(held) = self.scenarios.get(name) else {
@@ -345,8 +353,10 @@ impl Forest {
         parent: &Name,
         child: &Name,
     ) -> Result<(), AllocError>
-        requires whole { IsWhole (step self.old.world user.now (Change.Branch parent.now child.now)) }
-        ensures ok { OnOk result (IsSteppedBy point user.now (Change.Branch parent.now child.now) self.old self.new) }
+        requires whole { IsWhole
+            (step self.old.world user.now (Change.Branch parent.now child.now)) }
+        ensures ok { OnOk result
+            (IsSteppedBy point user.now (Change.Branch parent.now child.now) self.old self.new) }
         ensures err { OnErr result (self.new ≡ self.old) }
     {
         let _point = point;
@@ -361,7 +371,13 @@ impl Forest {
 
 // The row of a scenario that is held.
 fn tree_row(name: &Name, held: &Held) -> TreeRow
-    ensures { result ≡ record { name = name.now; parent = held.now.parent; owner = held.now.owner; private = held.now.private } }
+    ensures { result ≡ record {
+      name = name.now;
+      parent = held.now.parent;
+      owner = held.now.owner;
+      private =
+          held.now.private;
+    } }
 {
     TreeRow {
         name: *name,
@@ -373,7 +389,8 @@ fn tree_row(name: &Name, held: &Held) -> TreeRow
 
 // The row at a place in the order of names.
 fn row_at(scenarios: &BTreeMap<Name, Held>, place: usize) -> Option<TreeRow>
-    ensures { (m : Meaning) → result ≡ option_map tree_row (slice_get (world_by m scenarios.now.entries) place) }
+    ensures { (m : Meaning) → result
+        ≡ option_map tree_row (slice_get (world_by m scenarios.now.entries) place) }
 {
     let mut left = place;
     for (name, held) in scenarios.iter() {
@@ -407,7 +424,9 @@ fn put_two<K: Ord + Copy, V: Drop>(
     other_value: V,
 ) -> Result<(), AllocError>
     requires there { IsSome (lookup (is_at (K.cmp other.now)) map.old.entries) }
-    ensures ok { OnOk result (map.new.entries ≡ insert_entry K.cmp (insert_entry K.cmp map.old.entries key.now value) other.now other_value) }
+    ensures ok { OnOk result
+        (map.new.entries ≡ insert_entry K.cmp (insert_entry K.cmp map.old.entries key.now value)
+        other.now other_value) }
     ensures err { OnErr result (map.new.entries ≡ map.old.entries) }
 {
     map.insert(*key, value)?;

@@ -30,7 +30,8 @@ use scenario_cells::{one_room, own_room, row, rows_room};
 /// The contents have nothing under the key.
 fn no_record(scenarios: &Scenarios, store: &Store, name: &Name, key: &Key) -> Option<Refusal>
     requires { IsForest scenarios.now.entries store.now }
-    ensures { result ≡ refused.no_record (world_by (cell_at store.now) scenarios.now.entries) (changes.Del name.now key.now) }
+    ensures { result ≡ refused.no_record (world_by (cell_at store.now) scenarios.now.entries)
+        (changes.Del name.now key.now) }
 {
     match scenarios.get(name) {
         Some(held) => where_so(
@@ -44,7 +45,8 @@ fn no_record(scenarios: &Scenarios, store: &Store, name: &Name, key: &Key) -> Op
 /// The parent has changed under an own change of the scenario: the least such key.
 fn conflict(scenarios: &Scenarios, store: &Store, name: &Name) -> Option<Refusal>
     requires { IsForest scenarios.now.entries store.now }
-    ensures { result ≡ refused.conflict (world_by (cell_at store.now) scenarios.now.entries) (changes.Commit name.now) }
+    ensures { result ≡ refused.conflict (world_by (cell_at store.now) scenarios.now.entries)
+        (changes.Commit name.now) }
 {
     let Some(child) = scenarios.get(name) else {
         return None;
@@ -67,8 +69,12 @@ fn room_for_one(
     has: bool,
 ) -> Option<Refusal>
     requires forest { IsForest scenarios.now.entries store.now }
-    requires there { IsSome (scenario_at (world_by (cell_at store.now) scenarios.now.entries) name.now) }
-    ensures { (value : Option Record) → has ≡ is_some value → result ≡ refused_contents (contents_in (with_changes (world_by (cell_at store.now) scenarios.now.entries) name.now ((key.now, value) ∷ [])) name.now) }
+    requires there { IsSome
+        (scenario_at (world_by (cell_at store.now) scenarios.now.entries) name.now) }
+    ensures { (value : Option Record) → has ≡ is_some value → result
+        ≡ refused_contents (contents_in
+        (with_changes (world_by (cell_at store.now) scenarios.now.entries) name.now
+        ((key.now, value) ∷ [])) name.now) }
 {
     match scenarios.get(name) {
         Some(held) => one_room(held, store, key, has),
@@ -84,8 +90,11 @@ fn room_for_rows(
     rows: &[(Key, Record)],
 ) -> Option<Refusal>
     requires forest { IsForest scenarios.now.entries store.now }
-    requires there { IsSome (scenario_at (world_by (cell_at store.now) scenarios.now.entries) name.now) }
-    ensures { result ≡ refused_contents (contents_in (with_changes (world_by (cell_at store.now) scenarios.now.entries) name.now (all_put rows.now)) name.now) }
+    requires there { IsSome
+        (scenario_at (world_by (cell_at store.now) scenarios.now.entries) name.now) }
+    ensures { result ≡ refused_contents
+        (contents_in (with_changes (world_by (cell_at store.now) scenarios.now.entries) name.now
+        (all_put rows.now)) name.now) }
 {
     match scenarios.get(name) {
         Some(held) => rows_room(held, store, rows),
@@ -96,9 +105,12 @@ fn room_for_rows(
 /// Why a parent has no room for the own changes of a scenario.
 fn room_for_own(scenarios: &Scenarios, store: &Store, name: &Name) -> Option<Refusal>
     requires forest { IsForest scenarios.now.entries store.now }
-    requires there { IsSome (scenario_at (world_by (cell_at store.now) scenarios.now.entries) name.now) }
+    requires there { IsSome
+        (scenario_at (world_by (cell_at store.now) scenarios.now.entries) name.now) }
     requires other { world.is_root name.now ≡ false }
-    ensures { let w = world_by (cell_at store.now) scenarios.now.entries in result ≡ refused_contents (laid_over (contents_in w (parent_of (scenario w name.now))) (scenario w name.now).own) }
+    ensures { let w = world_by (cell_at store.now) scenarios.now.entries in result
+        ≡ refused_contents (laid_over (contents_in w (parent_of (scenario w name.now)))
+        (scenario w name.now).own) }
 {
     let Some(child) = scenarios.get(name) else {
         return None;
@@ -121,8 +133,10 @@ fn del_refusal(
     key: &Key,
 ) -> Option<Refusal>
     requires forest { IsForest scenarios.now.entries store.now }
-    requires there { IsSome (scenario_at (world_by (cell_at store.now) scenarios.now.entries) name.now) }
-    ensures { result ≡ refused.later_refusal (world_by (cell_at store.now) scenarios.now.entries) user.now (changes.Del name.now key.now) }
+    requires there { IsSome
+        (scenario_at (world_by (cell_at store.now) scenarios.now.entries) name.now) }
+    ensures { result ≡ refused.later_refusal (world_by (cell_at store.now) scenarios.now.entries)
+        user.now (changes.Del name.now key.now) }
 {
     let _user = user;
     if let Some(refusal) = no_record(scenarios, store, name, key) {
@@ -140,8 +154,10 @@ fn branch_refusal(
     child: &Name,
 ) -> Option<Refusal>
     requires forest { IsForest scenarios.now.entries store.now }
-    requires there { IsSome (scenario_at (world_by (cell_at store.now) scenarios.now.entries) parent.now) }
-    ensures { result ≡ refused.later_refusal (world_by (cell_at store.now) scenarios.now.entries) user.now (changes.Branch parent.now child.now) }
+    requires there { IsSome
+        (scenario_at (world_by (cell_at store.now) scenarios.now.entries) parent.now) }
+    ensures { result ≡ refused.later_refusal (world_by (cell_at store.now) scenarios.now.entries)
+        user.now (changes.Branch parent.now child.now) }
 {
     let _store = store;
     let _user = user;
@@ -157,8 +173,10 @@ fn branch_refusal(
 /// Why a SHARE is refused.
 fn share_refusal(scenarios: &Scenarios, store: &Store, user: &Name, name: &Name) -> Option<Refusal>
     requires forest { IsForest scenarios.now.entries store.now }
-    requires there { IsSome (scenario_at (world_by (cell_at store.now) scenarios.now.entries) name.now) }
-    ensures { result ≡ refused.later_refusal (world_by (cell_at store.now) scenarios.now.entries) user.now (changes.Share name.now) }
+    requires there { IsSome
+        (scenario_at (world_by (cell_at store.now) scenarios.now.entries) name.now) }
+    ensures { result ≡ refused.later_refusal (world_by (cell_at store.now) scenarios.now.entries)
+        user.now (changes.Share name.now) }
 {
     let _store = store;
     if let Some(refusal) = denied_unowned(scenarios, user, name) {
@@ -170,8 +188,10 @@ fn share_refusal(scenarios: &Scenarios, store: &Store, user: &Name, name: &Name)
 /// Why an UPDATE is refused.
 fn update_refusal(scenarios: &Scenarios, store: &Store, user: &Name, name: &Name) -> Option<Refusal>
     requires forest { IsForest scenarios.now.entries store.now }
-    requires there { IsSome (scenario_at (world_by (cell_at store.now) scenarios.now.entries) name.now) }
-    ensures { result ≡ refused.later_refusal (world_by (cell_at store.now) scenarios.now.entries) user.now (changes.Update name.now) }
+    requires there { IsSome
+        (scenario_at (world_by (cell_at store.now) scenarios.now.entries) name.now) }
+    ensures { result ≡ refused.later_refusal (world_by (cell_at store.now) scenarios.now.entries)
+        user.now (changes.Update name.now) }
 {
     if let Some(refusal) = denied_above(scenarios, user, name) {
         return Some(refusal);
@@ -185,8 +205,10 @@ fn update_refusal(scenarios: &Scenarios, store: &Store, user: &Name, name: &Name
 /// Why a COMMIT is refused.
 fn commit_refusal(scenarios: &Scenarios, store: &Store, user: &Name, name: &Name) -> Option<Refusal>
     requires forest { IsForest scenarios.now.entries store.now }
-    requires there { IsSome (scenario_at (world_by (cell_at store.now) scenarios.now.entries) name.now) }
-    ensures { result ≡ refused.later_refusal (world_by (cell_at store.now) scenarios.now.entries) user.now (changes.Commit name.now) }
+    requires there { IsSome
+        (scenario_at (world_by (cell_at store.now) scenarios.now.entries) name.now) }
+    ensures { result ≡ refused.later_refusal (world_by (cell_at store.now) scenarios.now.entries)
+        user.now (changes.Commit name.now) }
 {
     if let Some(refusal) = denied_above(scenarios, user, name) {
         return Some(refusal);
@@ -203,7 +225,8 @@ fn commit_refusal(scenarios: &Scenarios, store: &Store, user: &Name, name: &Name
 /// Why a DROP is refused.
 fn drop_refusal(scenarios: &Scenarios, store: &Store, user: &Name, name: &Name) -> Option<Refusal>
     requires { IsForest scenarios.now.entries store.now }
-    ensures { result ≡ refused.later_refusal (world_by (cell_at store.now) scenarios.now.entries) user.now (changes.Drop name.now) }
+    ensures { result ≡ refused.later_refusal (world_by (cell_at store.now) scenarios.now.entries)
+        user.now (changes.Drop name.now) }
 {
     let _store = store;
     if let Some(refusal) = denied_unowned(scenarios, user, name) {
@@ -239,7 +262,8 @@ pub(crate) fn first_refusal(
     change: &Change,
 ) -> Option<Refusal>
     requires { IsForest scenarios.now.entries store.now }
-    ensures { result ≡ scenario_refusal (world_by (cell_at store.now) scenarios.now.entries) user.now change.now }
+    ensures { result ≡ scenario_refusal (world_by (cell_at store.now) scenarios.now.entries)
+        user.now change.now }
 {
     if let Some(refusal) = access(scenarios, user, named_by(change)) {
         return Some(refusal);
@@ -255,8 +279,10 @@ fn later_refusal(
     change: &Change,
 ) -> Option<Refusal>
     requires forest { IsForest scenarios.now.entries store.now }
-    requires there { IsSome (scenario_at (world_by (cell_at store.now) scenarios.now.entries) (named change.now)) }
-    ensures { result ≡ refused.later_refusal (world_by (cell_at store.now) scenarios.now.entries) user.now change.now }
+    requires there { IsSome
+        (scenario_at (world_by (cell_at store.now) scenarios.now.entries) (named change.now)) }
+    ensures { result ≡ refused.later_refusal (world_by (cell_at store.now) scenarios.now.entries)
+        user.now change.now }
 {
     match change {
         Change::Put { scenario, key, .. } => room_for_one(scenarios, store, scenario, key, true),

@@ -71,7 +71,8 @@ fn is_child_of(held: &Held, name: &Name) -> bool
 
 /// There is no such scenario.
 pub(crate) fn no_scenario(scenarios: &Scenarios, name: &Name) -> Option<Refusal>
-    ensures { (m : Meaning) → result ≡ refused.no_scenario (world_by m scenarios.now.entries) name.now }
+    ensures { (m : Meaning) → result
+        ≡ refused.no_scenario (world_by m scenarios.now.entries) name.now }
 {
     match scenarios.get(name) {
         Some(_) => None,
@@ -81,7 +82,8 @@ pub(crate) fn no_scenario(scenarios: &Scenarios, name: &Name) -> Option<Refusal>
 
 /// The user may not use a scenario that is there.
 pub(crate) fn denied(scenarios: &Scenarios, user: &Name, name: &Name) -> Option<Refusal>
-    ensures { (m : Meaning) → result ≡ refused.denied (world_by m scenarios.now.entries) user.now name.now }
+    ensures { (m : Meaning) → result
+        ≡ refused.denied (world_by m scenarios.now.entries) user.now name.now }
 {
     match scenarios.get(name) {
         Some(held) => where_so(!may_use(held, user), Refusal::Denied(*name)),
@@ -91,7 +93,8 @@ pub(crate) fn denied(scenarios: &Scenarios, user: &Name, name: &Name) -> Option<
 
 /// Why a user may not query a scenario.
 pub(crate) fn access(scenarios: &Scenarios, user: &Name, name: &Name) -> Option<Refusal>
-    ensures { (m : Meaning) → result ≡ refused.access_refusal (world_by m scenarios.now.entries) user.now name.now }
+    ensures { (m : Meaning) → result
+        ≡ refused.access_refusal (world_by m scenarios.now.entries) user.now name.now }
 {
     if let Some(refusal) = no_scenario(scenarios, name) {
         return Some(refusal);
@@ -101,7 +104,8 @@ pub(crate) fn access(scenarios: &Scenarios, user: &Name, name: &Name) -> Option<
 
 /// The user may not use the parent of a scenario.
 pub(crate) fn denied_above(scenarios: &Scenarios, user: &Name, name: &Name) -> Option<Refusal>
-    ensures { (m : Meaning) → result ≡ refused.denied_above (world_by m scenarios.now.entries) user.now name.now }
+    ensures { (m : Meaning) → result
+        ≡ refused.denied_above (world_by m scenarios.now.entries) user.now name.now }
 {
     let Some(held) = scenarios.get(name) else {
         return None;
@@ -114,7 +118,8 @@ pub(crate) fn denied_above(scenarios: &Scenarios, user: &Name, name: &Name) -> O
 
 /// The user doesn't own a scenario, which isn't the root.
 pub(crate) fn denied_unowned(scenarios: &Scenarios, user: &Name, name: &Name) -> Option<Refusal>
-    ensures { (m : Meaning) → result ≡ refused.denied_unowned (world_by m scenarios.now.entries) user.now name.now }
+    ensures { (m : Meaning) → result
+        ≡ refused.denied_unowned (world_by m scenarios.now.entries) user.now name.now }
 {
     if is_root(name) {
         return None;
@@ -127,7 +132,8 @@ pub(crate) fn denied_unowned(scenarios: &Scenarios, user: &Name, name: &Name) ->
 
 /// There is a scenario of the child's name.
 pub(crate) fn taken(scenarios: &Scenarios, parent: &Name, child: &Name) -> Option<Refusal>
-    ensures { (m : Meaning) → result ≡ refused.taken (world_by m scenarios.now.entries) (changes.Branch parent.now child.now) }
+    ensures { (m : Meaning) → result
+        ≡ refused.taken (world_by m scenarios.now.entries) (changes.Branch parent.now child.now) }
 {
     let _parent = parent;
     match scenarios.get(child) {
@@ -145,21 +151,24 @@ pub(crate) fn root_refusal(name: &Name) -> Option<Refusal>
 
 /// Some scenario was branched from this one.
 pub(crate) fn has_children(scenarios: &Scenarios, name: &Name) -> Option<Refusal>
-    ensures { (m : Meaning) → result ≡ refused.has_children (world_by m scenarios.now.entries) (changes.Drop name.now) }
+    ensures { (m : Meaning) → result
+        ≡ refused.has_children (world_by m scenarios.now.entries) (changes.Drop name.now) }
 {
     where_so(any_child(scenarios, name), Refusal::HasChildren(*name))
 }
 
 /// Whether some scenario was branched from this one.
 fn any_child(scenarios: &Scenarios, name: &Name) -> bool
-    ensures { result ≡ list_any (λ entry. world.is_name_of entry.1.parent name.now) scenarios.now.entries }
+    ensures { result ≡ list_any (λ entry. world.is_name_of entry.1.parent name.now)
+        scenarios.now.entries }
 {
     scenarios.iter().any(|(_, held)| is_child_of(held, name))
 }
 
 /// How many scenarios stand above one with this parent, counted up to so many.
 fn count_above(scenarios: &Scenarios, most: usize, parent: &Option<Name>) -> usize
-    ensures count { (m : Meaning) → result ≡ world.count_above most (world_by m scenarios.now.entries) parent.now }
+    ensures count { (m : Meaning) → result
+        ≡ world.count_above most (world_by m scenarios.now.entries) parent.now }
     ensures most { result ≤ most }
 {
     if most == 0 {
@@ -176,7 +185,9 @@ fn count_above(scenarios: &Scenarios, most: usize, parent: &Option<Name>) -> usi
 
 /// The child would have too many scenarios above it.
 pub(crate) fn too_deep(scenarios: &Scenarios, parent: &Name, child: &Name) -> Option<Refusal>
-    ensures { (m : Meaning) → result ≡ refused.too_deep (world_by m scenarios.now.entries) (changes.Branch parent.now child.now) }
+    ensures { (m : Meaning) → result
+        ≡ refused.too_deep (world_by m scenarios.now.entries)
+        (changes.Branch parent.now child.now) }
 {
     let above = count_above(scenarios, DEPTH_LIMIT + 1, &Some(*parent));
     where_so(above > DEPTH_LIMIT, Refusal::Depth(*child))
@@ -184,7 +195,9 @@ pub(crate) fn too_deep(scenarios: &Scenarios, parent: &Name, child: &Name) -> Op
 
 /// There are as many scenarios as there may be.
 pub(crate) fn full_scenarios(scenarios: &Scenarios, parent: &Name, child: &Name) -> Option<Refusal>
-    ensures { (m : Meaning) → result ≡ refused.full_scenarios (world_by m scenarios.now.entries) (changes.Branch parent.now child.now) }
+    ensures { (m : Meaning) → result
+        ≡ refused.full_scenarios (world_by m scenarios.now.entries)
+        (changes.Branch parent.now child.now) }
 {
     let _parent = parent;
     let _child = child;

@@ -1,6 +1,5 @@
-use Rattle.std.proofs.Common.{◌≡◌, ◌∙◌, ap, sym, cond, Ok, Err, rules}
+use Rattle.std.proofs.Common.{◌∙◌, ap, sym, cond, Err, rules}
 use Rattle.row_text.specs.Texts.{texts}
-use Rattle.command_words.specs.Words.{first_words}
 use Rattle.command_words.specs.Commands.{command_of}
 use Rattle.command_words.specs.declared.reply.Bad.TheVariants as bads
 use Rattle.session_rules.specs.Requests.{closed_fault}

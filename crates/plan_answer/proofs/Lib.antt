@@ -5,3 +5,4 @@ pub mod Horizons
 pub mod Promising
 pub mod ParentLists
 pub mod OwnPegs
+pub mod Settled

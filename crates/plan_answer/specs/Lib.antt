@@ -3,3 +3,4 @@ pub mod Replies
 pub mod Laws
 pub mod Planned
 pub mod ParentLists
+pub mod Settled

@@ -9,6 +9,7 @@ mod planned;
 mod plans;
 mod records;
 mod still;
+mod walks;
 mod want;
 
 pub use ask::{Ask, ask_of, uses_plan};
@@ -17,4 +18,5 @@ pub use lines::{peg_lines, plan_lines, promise_lines};
 pub use plans::from_plans;
 pub use records::shown_rows;
 pub use still::from_records;
+pub use walks::from_settled;
 pub use want::wanted;

@@ -81,7 +81,8 @@ fn lines_of_day<P: Plans>(
     requires days { days ≡ days_of (records job.now.cells) }
     requires most { days ≤ 400 }
     requires at { at < days }
-    ensures { IfOk result (λ lines. lines ≡ map peg_line (pegs (records job.now.cells) part.now at)) }
+    ensures { let c = records job.now.cells in
+        IfOk result (λ lines. lines ≡ map peg_line (pegs c part.now at)) }
 {
     let Some((_id, cell)) = job.cells.get(&CellName::Part(*part)) else {
         unreachable!()

@@ -107,7 +107,8 @@ pub fn lines_of_query<P: Plans>(
     query: &Query,
 ) -> Result<Lines, AllocError>
     requires job { IsJob job.now.wanted job.now.cells }
-    requires planned { let c = records job.now.cells in ArePlanned c (parts_of c) (P.plans plans.now) }
+    requires planned { let c = records job.now.cells in
+        ArePlanned c (parts_of c) (P.plans plans.now) }
     ensures { IfOk result (λ lines. lines
         ≡ select_lines (records job.now.cells) (query_tree query.now)) }
 {

@@ -1,0 +1,46 @@
+//! Replies to questions that ask for plans, from walks.
+ghost use Rattle.std.specs.Prelude.{◌≡◌, true, IfOk};
+ghost use Rattle.walk_rules.specs.Cells.{records};
+ghost use Rattle.plan_jobs.specs.Jobs.{IsJob, asked_by};
+ghost use Rattle.plan_answer.specs.Asks.{question, asks_for_plan};
+ghost use Rattle.plan_answer.specs.Planned.{wants_of};
+ghost use Rattle.plan_answer.specs.Replies.{reply_of};
+ghost use Rattle.plan_answer.specs.Settled.{AreAllSettled};
+
+use crate::ask::Ask;
+use crate::plans::from_plans;
+use command_words::Reply;
+use plan_schema::{Known, Name};
+use plan_walk::Walk;
+use query_rows::Plans;
+use std::alloc::{AllocError, Global};
+
+/// The plans that a walk knows.
+#[derive(Clone, Copy)]
+struct WalkPlans<'a> {
+    walk: &'a Walk,
+}
+
+impl Plans for WalkPlans<'_> {
+    ghost use Rattle.walk_rules.specs.Walks.{known_at};
+
+    ghost plans = { λ plans part. known_at plans.walk.now.parts part };
+
+    fn known(&self, part: &Name) -> Option<&Known> {
+        self.walk.known(part)
+    }
+}
+
+/// The reply to a question that asks for plans, at its job's point, from a walk all of whose parts are settled, where no plan that it
+/// asks for is refused.
+pub fn from_settled(alloc: Global, walk: &Walk, ask: &Ask) -> Result<Reply, AllocError>
+    requires job { IsJob walk.now.job.wanted walk.now.job.cells }
+    requires wants { walk.now.job.wanted ≡ wants_of (question ask.now) }
+    requires uses { asks_for_plan (question ask.now) ≡ true }
+    requires settled { let c = records walk.now.job.cells in
+        AreAllSettled c (asked_by c walk.now.job.wanted) walk.now.parts }
+    ensures { IfOk result (λ reply. reply
+        ≡ reply_of walk.now.job.point (records walk.now.job.cells) (question ask.now)) }
+{
+    from_plans(alloc, walk.job(), &WalkPlans { walk }, ask)
+}

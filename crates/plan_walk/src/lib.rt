@@ -3,6 +3,7 @@
 
 mod cells;
 mod frontier;
+mod graph;
 mod hits;
 mod node;
 mod results;

@@ -78,7 +78,8 @@ pub fn net_part<L: Ledger>(
     requires part { CanStep job.now.cells name.now }
     requires lists { AreReleases (days_of (records job.now.cells)) releases.now }
     requires each { length (bills_of (records job.now.cells) name.now) ≡ length releases.now }
-    ensures known { IfOk result (λ known. step_from (records job.now.cells) name.now releases.now ≡ Some known) }
+    ensures known { IfOk result
+        (λ known. step_from (records job.now.cells) name.now releases.now ≡ Some known) }
     ensures steps { OnOk result (steps.new ≡ steps.old + 1) }
 {
     let plan = cell_in(&job.cells, &CellName::Plan);

@@ -69,7 +69,8 @@ fn node_of(
 ) -> Result<Node, AllocError>
     requires job { IsJob job.now.wanted job.now.cells }
     requires part { CanStep job.now.cells name.now }
-    requires parents { AllByRecursion (Contains places.now) (parents (records job.now.cells) name.now) }
+    requires parents { AllByRecursion (Contains places.now)
+        (parents (records job.now.cells) name.now) }
     ensures { IfOk result (IsNew job.now.cells places.now name.now) }
 {
     let cell_name = CellName::Part(*name);

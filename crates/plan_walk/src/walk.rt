@@ -91,12 +91,15 @@ impl Walk {
         requires open { IsOpen self.old }
         requires solved { IsSolved self.old solved }
         requires meant { (m : Meaning) × MemoRight m memo.old.pairs × Stands m self.old.job.cells }
-        ensures settles { IfOk result (λ r. Settles self.old self.new memo.old.pairs memo.new.pairs memo.old.most solved r.0 r.1) }
+        ensures settles { IfOk result
+            (λ r. Settles self.old self.new memo.old.pairs memo.new.pairs memo.old.most solved r.0
+            r.1) }
         ensures ends { IfOk result (λ r. EndsSettled self.new r.0) }
         ensures open { OnOk result (IsOpen self.new) }
         ensures job { self.new.job ≡ self.old.job }
         ensures most { memo.new.most ≡ memo.old.most }
-        ensures right { (m : Meaning) → MemoRight m memo.old.pairs → Stands m self.old.job.cells → MemoRight m memo.new.pairs }
+        ensures right { (m : Meaning) → MemoRight m memo.old.pairs → Stands m self.old.job.cells
+            → MemoRight m memo.new.pairs }
     {
         let mut next = Vec::new(self.alloc);
         let tally = settle_parts(

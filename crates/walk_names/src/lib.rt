@@ -8,4 +8,5 @@ mod refusals;
 mod trouble;
 
 pub use names::names_by_level;
+pub use refusals::earlier;
 pub use trouble::Trouble;

@@ -1,15 +1,14 @@
 -- What a walk begins with.
-use Rattle.std.proofs.Common.{◌≡◌, ℕ, zero, suc, ◌+◌, ◌<◌, List, [], ◌∷◌, ◌++◌, length, map, take, refl, sym, ◌∙◌, ap, subst, arith, Bool, true, false, cond, add-one, not}
-use Rattle.std.specs.Prelude.{Option, Some, None, slice_get, filter, replicate, is_some, Contains}
+use Rattle.std.proofs.Common.{◌≡◌, ℕ, zero, suc, ◌+◌, ◌<◌, List, [], ◌∷◌, ◌++◌, length, take, refl, sym, ◌∙◌, ap, subst, arith, Bool, true, false, cond, add-one, not}
+use Rattle.std.specs.Prelude.{Option, Some, None, slice_get, filter, replicate, is_some}
 use Rattle.std.specs.List.{AllByRecursion}
 use Rattle.plan_schema.specs.declared.name.Name.{Name}
 use Rattle.plan_schema.specs.declared.key.Key.TheVariants as keys
 use Rattle.plan_schema.specs.declared.key.Record.{Record}
 use Rattle.plan_schema.specs.declared.key.Record.TheVariants as rows
-use Rattle.plan_schema.specs.declared.refusal.Refusal.{Refusal}
 use Rattle.plan_schema.specs.declared.refusal.Refusal.TheVariants as refusals
 use Rattle.plan_schema.specs.declared.change.CellName.TheVariants as names
-use Rattle.plan_schema.specs.Key.{name_eq, cell_of}
+use Rattle.plan_schema.specs.Key.{name_eq}
 use Rattle.plan_schema.specs.Refusals.{first_of, about}
 use Rattle.plan_schema.specs.Contents.{Contents, record_at}
 use Rattle.planning_rules.specs.Plan.{Known, plan, has_calendar}
@@ -18,13 +17,13 @@ use Rattle.planning_rules.proofs.Membership.{IsIn, in_contained, contained_in, a
 use Rattle.planning_rules.proofs.LeastNames.{least_found}
 use Rattle.record_versions.specs.declared.version.VersionId.{VersionId}
 use Rattle.walk_rules.specs.Cells.{Cells, records, held}
-use Rattle.walk_rules.specs.Rights.{HasCells, AreRight}
+use Rattle.walk_rules.specs.Rights.{AreRight}
 use Rattle.walk_rules.specs.Steps.{calendar_of, calendar_in}
 use Rattle.walk_rules.specs.Walks.{Parts, names_of, known_at, unknown, is_ready, frontier}
 use Rattle.plan_jobs.specs.declared.job.Job.{Job}
 use Rattle.plan_jobs.specs.declared.job.Wanted.{Wanted}
 use Rattle.plan_jobs.specs.Jobs.{IsJob, wants_plan, asked_by}
-use Rattle.walk_names.specs.Names.{first_four, AreWalkNames}
+use Rattle.walk_names.specs.Names.{AreWalkNames}
 use Rattle.walk_names.proofs.JobCells.{cell_there}
 use Rattle.plan_walk.specs.declared.node.Node.{Node}
 use Rattle.plan_walk.specs.Places.{parts_of, ready_at}

@@ -1,18 +1,12 @@
 -- A name among those of nodes.
-use Rattle.std.proofs.Common.{◌≡◌, ℕ, suc, ◌+◌, ◌<◌, ◌≤◌, inl, inr, List, [], ◌∷◌, length, refl, sym, ◌∙◌, ap, arith, Bool, true, false, cond, nat_eq}
-use Rattle.std.proofs.lemmas.Bool.{cases_lt}
+use Rattle.std.proofs.Common.{◌≡◌, ℕ, suc, List, [], ◌∷◌, length, refl, ap, arith, Bool, true, false, cond}
 use Rattle.std.specs.Prelude.{Option, Some, None, slice_get}
-use Rattle.std.specs.Cmp.Lexicographic.{pointwise, texts_ties}
 use Rattle.plan_schema.specs.declared.name.Name.{Name}
 use Rattle.plan_schema.specs.Key.{name_eq}
 use Rattle.planning_rules.specs.Plan.{Known}
-use Rattle.planning_rules.proofs.LevelLaws.{same_name, one_name}
+use Rattle.planning_rules.proofs.LevelLaws.{one_name}
 use Rattle.walk_rules.specs.Walks.{known_at}
-use Rattle.plan_walk.specs.declared.node.Node.{Node}
 use Rattle.plan_walk.specs.Places.{parts_of}
-use Rattle.plan_walk.specs.Nodes.{node_names}
-use Rattle.plan_walk.proofs.LookUps.{inside}
-use Rattle.plan_walk.proofs.SoFar.{name_there, names_long}
 
 -- of a name that isn't there nothing is known
 pub unknown_name : (ns : List Name) (ks : List (Option Known)) (n : Name) → ((k : ℕ) → slice_get ns k ≡ Some n → ⊥) → known_at (parts_of ns ks) n ≡ None

@@ -1,12 +1,11 @@
 -- A part is appended to the graph of a walk, after its parents.
-use Rattle.std.proofs.Common.{◌≡◌, ℕ, zero, suc, ◌+◌, ◌<◌, ◌≤◌, ◌⊎◌, inl, inr, List, [], ◌∷◌, ◌++◌, length, map, take, set, refl, sym, ◌∙◌, ap, subst, arith, Bool, true, false, cond, ◌||◌, ◌==◌, length-append}
+use Rattle.std.proofs.Common.{◌≡◌, ℕ, zero, suc, ◌+◌, ◌<◌, ◌≤◌, ◌⊎◌, inl, inr, List, [], ◌∷◌, ◌++◌, length, map, take, set, refl, sym, ◌∙◌, ap, subst, arith, Bool, true, false, ◌==◌, length-append}
 use Rattle.std.proofs.lemmas.List.{map-append, map-set}
 use Rattle.std.proofs.lemmas.Bool.{cases_lt}
 use Rattle.std.proofs.lemmas.Bool.Decides.{nat_tests}
 use Rattle.std.proofs.lemmas.Map.Views.{exact_unsigned_eq}
-use Rattle.std.specs.Prelude.{Option, Some, slice_get, option_map}
+use Rattle.std.specs.Prelude.{Some, slice_get}
 use Rattle.std.specs.List.{AllByRecursion, list_any}
-use Rattle.plan_schema.specs.declared.name.Name.{Name}
 use Rattle.planning_rules.proofs.Membership.{either, or_left, or_right}
 use Rattle.plan_walk.specs.declared.node.Node.{Node}
 use Rattle.plan_walk.specs.Places.{AreDistinct}

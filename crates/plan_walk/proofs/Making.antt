@@ -1,12 +1,12 @@
 -- The parts of a walk are made one after another.
-use Rattle.std.proofs.Common.{◌≡◌, ℕ, zero, suc, ◌+◌, ◌<◌, inl, inr, List, [], ◌∷◌, ◌++◌, length, map, take, refl, sym, ◌∙◌, ap, subst, arith, Bool, true, false, add-one}
-use Rattle.std.specs.Prelude.{Option, Some, None, slice_get, option_map, is_some, Contains}
+use Rattle.std.proofs.Common.{◌≡◌, ℕ, zero, suc, ◌+◌, ◌<◌, inl, inr, List, [], ◌∷◌, ◌++◌, length, take, refl, sym, ◌∙◌, ap, subst, arith, false, add-one}
+use Rattle.std.specs.Prelude.{Some, slice_get, option_map, Contains}
 use Rattle.std.specs.List.{AllByRecursion}
 use Rattle.plan_schema.specs.declared.name.Name.{Name}
 use Rattle.plan_schema.specs.declared.change.CellName.TheVariants as names
 use Rattle.plan_schema.specs.Key.{name_eq}
 use Rattle.planning_rules.specs.Bills.{parents}
-use Rattle.planning_rules.proofs.Membership.{IsIn, in_contained}
+use Rattle.planning_rules.proofs.Membership.{in_contained}
 use Rattle.low_level_codes.specs.Numbers.{Lacks, Numbers}
 use Rattle.low_level_codes.proofs.Numbered.{kept, stand_kept}
 use Rattle.walk_rules.specs.Cells.{Cells, records, version_in}

@@ -61,12 +61,7 @@ fn parents_at(alloc: Global, places: &Numbering, cell: &Cell) -> Result<Vec<usiz
 }
 
 /// A part with the versions of its cells and the places of its parents.
-fn node_of(
-    alloc: Global,
-    job: &Job,
-    places: &Numbering,
-    name: &Name,
-) -> Result<Node, AllocError>
+fn node_of(alloc: Global, job: &Job, places: &Numbering, name: &Name) -> Result<Node, AllocError>
     requires job { IsJob job.now.wanted job.now.cells }
     requires part { CanStep job.now.cells name.now }
     requires parents { AllByRecursion (Contains places.now)

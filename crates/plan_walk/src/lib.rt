@@ -5,6 +5,7 @@ mod cells;
 mod frontier;
 mod graph;
 mod hits;
+mod large;
 mod node;
 mod results;
 mod round;

@@ -7,11 +7,14 @@ ghost use Rattle.walk_rules.specs.Cells.{Stands, records};
 ghost use Rattle.plan_jobs.specs.Jobs.{IsJob, asked_by, wants_plan};
 ghost use Rattle.walk_names.specs.Names.{IsTrouble};
 ghost use Rattle.walk_rules.specs.Memo.{MemoRight};
-ghost use Rattle.walk_rules.specs.Walks.{known_at};
+ghost use Rattle.walk_rules.specs.Walks.{known_at, names_of};
+ghost use Rattle.planning_rules.specs.Plan.{plan};
+ghost use Rattle.planning_rules.specs.Refused.{is_large, least_name};
 ghost use Rattle.plan_walk.specs.Nodes.{names_at};
 ghost use Rattle.plan_walk.specs.Walk.{Begins, IsOpen, IsSolved, Settles, EndsSettled, round_of};
 
 use crate::graph::{nodes_of, nothing_known, ready_places, version_of};
+use crate::large::least_large;
 use crate::node::{Node, value_at};
 use crate::round::{Round, Tally};
 use crate::settle::settle_parts;
@@ -161,6 +164,16 @@ impl Walk {
             Some(place) => value_at(self.known.as_slice(), place),
             None => None,
         }
+    }
+
+    /// The least name whose plan is too large, where the walk is at its end.
+    pub fn too_large(&self) -> Option<Name>
+        requires open { IsOpen self.now }
+        requires done { self.now.front ≡ [] }
+        ensures { let c = records self.now.job.cells in
+            result ≡ least_name (λ n. is_large (plan c n)) (names_of self.now.parts) }
+    {
+        least_large(self.nodes.as_slice(), self.known.as_slice())
     }
 }
 

@@ -1,4 +1,4 @@
-use Rattle.std.proofs.Common.{◌≡◌, take, length}
+use Rattle.std.proofs.Common.{take, length}
 use Rattle.plan_walk.specs.Making.{Linked}
 use Rattle.plan_walk.proofs.graph.join.Given as goal
 

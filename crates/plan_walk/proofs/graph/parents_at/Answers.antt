@@ -1,4 +1,4 @@
-use Rattle.std.proofs.Common.{List, [], sym, subst}
+use Rattle.std.proofs.Common.{[], sym, subst}
 use Rattle.std.specs.List.{filter_map}
 use Rattle.plan_schema.specs.Contents.{Contents}
 use Rattle.planning_rules.specs.Bills.{parent_in}

@@ -1,4 +1,4 @@
-use Rattle.std.proofs.Common.{◌≡◌, ◌+◌, ◌∙◌, ap, sym, subst, arith, length}
+use Rattle.std.proofs.Common.{◌≡◌, ◌+◌, ◌∙◌, sym, subst, arith, length}
 use Rattle.plan_walk.specs.Nodes.{shown}
 use Rattle.plan_walk.proofs.Shown.{shown_long}
 use Rattle.plan_walk.proofs.SoFar.{at_index}

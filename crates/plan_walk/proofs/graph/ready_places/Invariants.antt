@@ -1,4 +1,3 @@
-use Rattle.std.proofs.Common.{◌≡◌}
 use Rattle.plan_walk.specs.Nodes.{shown}
 use Rattle.plan_walk.proofs.Beginning.{ReadySoFar}
 use Rattle.plan_walk.proofs.graph.ready_places.Given as goal

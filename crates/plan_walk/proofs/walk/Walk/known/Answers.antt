@@ -1,6 +1,5 @@
-use Rattle.std.proofs.Common.{◌≡◌, ℕ, List, ◌∙◌, ap, sym, subst, length}
+use Rattle.std.proofs.Common.{◌≡◌, ◌∙◌, ap, sym, subst, length}
 use Rattle.std.specs.Prelude.{Some, slice_get}
-use Rattle.plan_schema.specs.declared.name.Name.{Name}
 use Rattle.low_level_codes.specs.Numbers.{Lacks}
 use Rattle.walk_rules.specs.Walks.{known_at}
 use Rattle.plan_walk.specs.Places.{known_in}

@@ -1,22 +1,18 @@
-use Rattle.std.proofs.Common.{◌≡◌, ℕ, ◌<◌, List, length, take, map, ◌∙◌, ap, sym, subst, refl, Some, None, arith}
-use Rattle.std.specs.Prelude.{slice_get, replicate, Contains}
+use Rattle.std.proofs.Common.{◌≡◌, ℕ, ◌<◌, List, length, take, ◌∙◌, ap, sym, subst, Some, arith}
+use Rattle.std.specs.Prelude.{slice_get, Contains}
 use Rattle.std.specs.List.{AllByRecursion}
 use Rattle.plan_schema.specs.declared.name.Name.{Name}
 use Rattle.plan_schema.specs.declared.change.CellName.TheVariants as names
 use Rattle.planning_rules.specs.Bills.{parents}
 use Rattle.walk_rules.specs.Cells.{records, version_in}
-use Rattle.walk_rules.specs.Walks.{names_of, unknown, frontier}
+use Rattle.walk_rules.specs.Walks.{unknown, frontier}
 use Rattle.walk_rules.specs.Rights.{AreRight}
 use Rattle.plan_jobs.specs.Jobs.{asked_by}
-use Rattle.walk_names.specs.Names.{AreWalkNames}
 use Rattle.plan_walk.specs.declared.node.Node.{Node}
 use Rattle.plan_walk.specs.Places.{AreDistinct, parts_of}
-use Rattle.plan_walk.specs.Nodes.{IsGraph, Fits, node_names, names_at, shown}
+use Rattle.plan_walk.specs.Nodes.{Fits, node_names, names_at, shown}
 use Rattle.plan_walk.specs.Making.{AreMade}
-use Rattle.plan_walk.specs.View.{View}
-use Rattle.plan_walk.specs.Walk.{CanStep, IsWalk, IsOpen, Begins}
-use Rattle.plan_walk.proofs.Places.{names_place}
-use Rattle.plan_walk.proofs.SoFar.{names_long}
+use Rattle.plan_walk.specs.Walk.{CanStep}
 use Rattle.plan_walk.proofs.Shown.{shown_long}
 use Rattle.plan_walk.proofs.Ordered.{distinct, parents_before}
 use Rattle.plan_walk.proofs.Making.{made_fits}

@@ -1,6 +1,9 @@
 -- Names by their places.
-use Rattle.std.proofs.Common.{◌≡◌, ℕ, zero, suc, ◌<◌, ◌≤◌, ◌⊎◌, inl, inr, List, [], ◌∷◌, ◌++◌, length, set, refl, sym, ◌∙◌, ap, subst, arith, Bool, true, false, cond, ◌||◌, if◌then◌else◌}
-use Rattle.std.specs.Prelude.{Some, slice_get}
+use Rattle.std.proofs.Common.{◌≡◌, ℕ, zero, suc, ◌<◌, ◌≤◌, ◌⊎◌, inl, inr, List, [], ◌∷◌, ◌++◌, length, set, get_or, refl, sym, ◌∙◌, ap, subst, arith, Bool, true, false, cond, ◌||◌, if◌then◌else◌}
+use Rattle.std.specs.Prelude.{Option, Some, None, slice_get, is_some, nat_eq, position, MatchOption}
+use Rattle.std.proofs.lemmas.List.Quantifiers.{position-Some}
+use Rattle.std.specs.Cmp.Lexicographic.{pointwise, texts_ties}
+use Rattle.planning_rules.proofs.LevelLaws.{one_name}
 use Rattle.std.specs.List.{AllByRecursion, list_any}
 use Rattle.plan_schema.specs.declared.name.Name.{Name}
 use Rattle.low_level_codes.specs.Graphs.{at, AreWithin}
@@ -40,6 +43,19 @@ one_of (z ∷ zs) y (suc i) x is = elim (one_of zs y i x is) [ inl was ↦ inl w
 pub keeps : (old new : List Name) (n : Name) → Numbers old n new → Keeps old new
 keeps old new n (inl same) k m is = subst (λ ns. slice_get ns k ≡ Some m) (sym same) is
 keeps old new n (inr more) k m is = subst (λ ns. slice_get ns k ≡ Some m) (sym more.0) (kept old (n ∷ []) k m is)
+
+at_or : (ns : List Name) (i : ℕ) → i < length ns → slice_get ns i ≡ Some (get_or ns i [])
+at_or [] i l = absurd (omega arith)
+at_or (n ∷ ns) zero l = refl
+at_or (n ∷ ns) (suc i) l = let short : i < length ns = omega arith in at_or ns i short
+
+-- what a look-up finds
+pub found : (itself : (a : Name) → pointwise nat_eq a a ≡ true) (n : Name) (ns : List Name) (o : Option ℕ) → o ≡ position (pointwise nat_eq n) ns → is_some o ≡ list_any (pointwise nat_eq n) ns
+    → MatchOption o (Lacks ns n) (λ i. slice_get ns i ≡ Some n)
+found itself n ns None e any = λ k there. never (any ∙ any_there (pointwise nat_eq) itself n ns k there)
+found itself n ns (Some i) e any =
+    let w = position-Some (pointwise nat_eq n) ns i [] (sym e) in
+    at_or ns i w.0 ∙ ap Some (sym (one_name n (get_or ns i []) (sym (texts_ties n (get_or ns i [])) ∙ w.1)))
 
 -- where a name gets the next place
 pub is_new : (old new : List Name) (n : Name) (i : ℕ) → Numbers old n new → slice_get new i ≡ Some n → i ≡ length old → (new ≡ old ++ n ∷ []) × Lacks old n

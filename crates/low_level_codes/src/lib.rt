@@ -12,3 +12,4 @@ mod reach;
 pub use ancestry::closure;
 pub use codes::levels;
 pub use fault::LevelFault;
+pub use numbering::Numbering;

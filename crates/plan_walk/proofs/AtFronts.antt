@@ -47,7 +47,7 @@ stand_long ns [] (p ∷ ps) h = absurd h
 stand_long ns (q ∷ qs) [] h = absurd h
 stand_long ns (q ∷ qs) (p ∷ ps) h = ap suc (stand_long ns qs ps h.1)
 
-module _ (job : Job) (plan : VersionId) (nodes : List Node) (n : ℕ) (front : List ℕ) (w : IsWalk job plan nodes n front) (ks : List (Option Known)) (whole : length ks ≡ length nodes)
+module _ (job : Job) (plan : VersionId) (nodes : List Node) (n : ℕ) (front : List ℕ) (ns : List Name) (w : IsWalk job plan nodes n front ns) (ks : List (Option Known)) (whole : length ks ≡ length nodes)
     (right : AreRight (records job.cells) (parts_of (node_names nodes) ks)) (exact : names_at (node_names nodes) front ≡ frontier (records job.cells) (parts_of (node_names nodes) ks)) where
   pub at_front : AreAtFront job.cells nodes ks front
   at_front k place node at is =

@@ -41,7 +41,7 @@ kept p (y ∷ ys) (suc i) x is h = by_cases (p y) (kept p ys i x is h)
     by_cases false w = w
 
 -- two places of one name are one
-one_place : (ns : List Name) (i k : ℕ) (n : Name) → AreDistinct ns → slice_get ns i ≡ Some n → slice_get ns k ≡ Some n → i ≡ k
+pub one_place : (ns : List Name) (i k : ℕ) (n : Name) → AreDistinct ns → slice_get ns i ≡ Some n → slice_get ns k ≡ Some n → i ≡ k
 one_place [] i k n d a b = absurd (let never : ⊥ = cc in never)
 one_place (m ∷ ms) zero zero n d a b = refl
 one_place (m ∷ ms) zero (suc k) n d a b = absurd (clash m n (each_at (λ x. name_eq m x ≡ false) ms k n d.0 b) (let same : m ≡ n = cc in same))

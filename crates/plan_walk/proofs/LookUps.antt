@@ -32,7 +32,7 @@ fold_more f b [] i x is = absurd (let never : ⊥ = cc in never)
 fold_more f b (y ∷ ys) zero x is = let same : y ≡ x = cc in ap (f b) same
 fold_more f b (y ∷ ys) (suc i) x is = fold_more f (f b y) ys i x is
 
-filter_more : {A : Type 0} (p : A → Bool) (xs : List A) (i : ℕ) (x : A) → slice_get xs i ≡ Some x → filter p (take (suc i) xs) ≡ filter p (take i xs) ++ cond (p x) (x ∷ []) []
+pub filter_more : {A : Type 0} (p : A → Bool) (xs : List A) (i : ℕ) (x : A) → slice_get xs i ≡ Some x → filter p (take (suc i) xs) ≡ filter p (take i xs) ++ cond (p x) (x ∷ []) []
 filter_more p [] i x is = absurd (let never : ⊥ = cc in never)
 filter_more p (y ∷ ys) zero x is = let same : y ≡ x = cc in ap (λ z. cond (p z) (z ∷ []) []) same
 filter_more p (y ∷ ys) (suc i) x is = by_cases (p y) (filter_more p ys i x is)
@@ -50,11 +50,11 @@ filter_same p q (x ∷ xs) (suc i) h =
     let rest = filter_same p q xs i (λ k y l is. h (suc k) y (omega arith) is) in
     λ j. cond (h 0 x (omega arith) refl j) (x ∷ rest j) (rest j)
 
-take_whole : {A : Type 0} (xs : List A) → take (length xs) xs ≡ xs
+pub take_whole : {A : Type 0} (xs : List A) → take (length xs) xs ≡ xs
 take_whole [] = refl
 take_whole (x ∷ xs) = ap (λ ys. x ∷ ys) (take_whole xs)
 
-append_none : {A : Type 0} (xs : List A) → xs ++ [] ≡ xs
+pub append_none : {A : Type 0} (xs : List A) → xs ++ [] ≡ xs
 append_none [] = refl
 append_none (x ∷ xs) = ap (λ ys. x ∷ ys) (append_none xs)
 

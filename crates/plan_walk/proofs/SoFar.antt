@@ -61,7 +61,7 @@ downs_there [] i node is = absurd (let never : ⊥ = cc in never)
 downs_there (other ∷ nodes) zero node is = let same : other ≡ node = cc in ap (λ (n : Node). n.downs.items) same
 downs_there (other ∷ nodes) (suc i) node is = downs_there nodes i node is
 
-names_more : (ns : List Name) (front : List ℕ) (place : ℕ) (n : Name) → slice_get ns place ≡ Some n → names_at ns (front ++ place ∷ []) ≡ names_at ns front ++ n ∷ []
+pub names_more : (ns : List Name) (front : List ℕ) (place : ℕ) (n : Name) → slice_get ns place ≡ Some n → names_at ns (front ++ place ∷ []) ≡ names_at ns front ++ n ∷ []
 names_more ns [] place n is = ap (λ o. unwrap_or o [] ∷ []) is
 names_more ns (q ∷ qs) place n is = ap (λ more. unwrap_or (slice_get ns q) [] ∷ more) (names_more ns qs place n is)
 

@@ -34,10 +34,10 @@ solved_right parts pairs front job ns names has right solved (inr all) =
     (results_right job.cells (record { parts = parts; pairs = pairs; netted = 0; reused = 0 }) right (names_of parts) (subst (AllByRecursion (HasCells job.cells)) (sym names) has))
 
 -- what a right memo needs of a walk to stay right
-pub sound_of : (m : Meaning) (job : Job) (plan : VersionId) (nodes : List Node) (known : List (Option Known)) (n : ℕ) (front : List ℕ) → IsWalk job plan nodes n front → length known ≡ length nodes
+pub sound_of : (m : Meaning) (job : Job) (plan : VersionId) (nodes : List Node) (known : List (Option Known)) (n : ℕ) (front : List ℕ) (ns : List Name) → IsWalk job plan nodes n front ns → length known ≡ length nodes
     → (pairs : Pairs) (results : List (Name × Known)) → AreRight (records job.cells) (parts_of (node_names nodes) known)
     → IsSolved (record { job = job; parts = parts_of (node_names nodes) known; front = names_at (node_names nodes) front }) results → Stands m job.cells → AreSound m job.cells nodes known pairs results
-sound_of m job plan nodes known n front w whole pairs results right solved stands = record {
+sound_of m job plan nodes known n front ns w whole pairs results right solved stands = record {
   meant = record { own = w.is_job.own; apart = apart job.cells w.is_job.ascending; stands = stands };
   has = have_cells job.cells (node_names nodes) w.steps;
   known = right;

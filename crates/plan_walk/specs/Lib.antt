@@ -1,6 +1,7 @@
 pub mod Places
 pub mod Waiting
 pub mod Nodes
+pub mod Making
 pub mod LookUps
 pub mod Results
 pub mod Settled

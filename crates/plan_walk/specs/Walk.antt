@@ -9,9 +9,10 @@ use Rattle.walk_rules.specs.Cells.{Cells, records}
 use Rattle.walk_rules.specs.Memo.{Pairs}
 use Rattle.walk_rules.specs.Rights.{HasCells, AreRight}
 use Rattle.walk_rules.specs.Steps.{calendar_in}
-use Rattle.walk_rules.specs.Walks.{State, names_of, frontier, results_of, is_empty, IsSettled, Took, with_hits}
+use Rattle.walk_rules.specs.Walks.{State, names_of, unknown, frontier, results_of, is_empty, IsSettled, Took, with_hits}
 use Rattle.plan_jobs.specs.declared.job.Job.{Job}
-use Rattle.plan_jobs.specs.Jobs.{IsJob}
+use Rattle.plan_jobs.specs.Jobs.{IsJob, asked_by}
+use Rattle.walk_names.specs.Names.{AreWalkNames}
 use Rattle.plan_walk.specs.declared.node.Node.{Node}
 use Rattle.plan_walk.specs.declared.round.Tally.{Tally}
 use Rattle.plan_walk.specs.declared.round.Round.{Round}
@@ -26,13 +27,20 @@ pub record CanStep (cells : Cells) (n : Name) : Type 0 where
   pub calendar : has_calendar (records cells) (calendar_in (records cells) n) ≡ true
 
 -- the fields of a walk fit its job
-pub record IsWalk (job : Job) (plan : VersionId) (nodes : List Node) (known : ℕ) (front : List ℕ) : Type 0 where
+pub record IsWalk (job : Job) (plan : VersionId) (nodes : List Node) (known : ℕ) (front : List ℕ) (numbers : List Name) : Type 0 where
   pub is_job : IsJob job.wanted job.cells
   pub graph : IsGraph nodes
   pub fits : Fits job.cells plan nodes
   pub whole : known ≡ length nodes
   pub steps : AllByRecursion (CanStep job.cells) (node_names nodes)
   pub places : (k q : ℕ) → slice_get front k ≡ Some q → q < length nodes
+  pub numbered : numbers ≡ node_names nodes
+
+-- a walk of a job begins: its parts are those in reach of the asked ones, by level and then by name, and nothing is known of them
+pub record Begins (job : Job) (w : View) : Type 0 where
+  pub job_is : w.job ≡ job
+  pub names : AreWalkNames (records job.cells) (asked_by (records job.cells) job.wanted) (names_of w.parts)
+  pub nothing : w.parts ≡ unknown (names_of w.parts)
 
 -- a walk that can go on: its frontier is that of the definition, and each value that is known is the plan's
 pub record IsOpen (w : View) : Type 0 where

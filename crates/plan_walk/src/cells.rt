@@ -21,7 +21,7 @@ use std::alloc::{AllocError, Global};
 use std::sync::ledger::Ledger;
 
 /// The cell of a name that is there.
-fn cell_in<'a>(cells: &'a CellList, name: &CellName) -> &'a Cell
+pub fn cell_in<'a>(cells: &'a CellList, name: &CellName) -> &'a Cell
     requires { is_some (held cells.now name.now) ≡ true }
     ensures { (id : VersionId) × (held cells.now name.now ≡ Some (id, result.now)) }
 {
@@ -32,7 +32,7 @@ fn cell_in<'a>(cells: &'a CellList, name: &CellName) -> &'a Cell
 }
 
 /// The calendar that a part's record names, if it is there and names one.
-fn calendar_named(cell: &Cell, name: &Name) -> Option<Name>
+pub fn calendar_named(cell: &Cell, name: &Name) -> Option<Name>
     ensures { result ≡ calendar_of (record_at cell.now (keys.Part name.now)) }
 {
     match cell.get(&Key::Part(*name)) {
@@ -78,7 +78,8 @@ pub fn net_part<L: Ledger>(
     requires part { CanStep job.now.cells name.now }
     requires lists { AreReleases (days_of (records job.now.cells)) releases.now }
     requires each { length (bills_of (records job.now.cells) name.now) ≡ length releases.now }
-    ensures known { IfOk result (λ known. step_from (records job.now.cells) name.now releases.now ≡ Some known) }
+    ensures known { IfOk result
+        (λ known. step_from (records job.now.cells) name.now releases.now ≡ Some known) }
     ensures steps { OnOk result (steps.new ≡ steps.old + 1) }
 {
     let plan = cell_in(&job.cells, &CellName::Plan);

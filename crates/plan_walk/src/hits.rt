@@ -30,7 +30,8 @@ fn found_in(
     memo: &mut Memo<MemoKey, Known>,
     key: &MemoKey,
 ) -> Result<Option<Arc<Known>>, AllocError>
-    ensures found { IfOk result (λ o. option_map arc_value o ≡ lookup (key_eq key.now) memo.old.pairs) }
+    ensures found { IfOk result
+        (λ o. option_map arc_value o ≡ lookup (key_eq key.now) memo.old.pairs) }
     ensures front { memo.new ≡ memo_of (in_front (key_eq key.now) memo.old.pairs) memo.old.most }
 {
     match memo.get(key) {
@@ -41,7 +42,8 @@ fn found_in(
 
 /// What the memo holds under a key, if anything. A right memo stays right.
 fn taken(memo: &mut Memo<MemoKey, Known>, key: &MemoKey) -> Result<Option<Arc<Known>>, AllocError>
-    ensures found { IfOk result (λ o. option_map arc_value o ≡ lookup (key_eq key.now) memo.old.pairs) }
+    ensures found { IfOk result
+        (λ o. option_map arc_value o ≡ lookup (key_eq key.now) memo.old.pairs) }
     ensures front { memo.new ≡ memo_of (in_front (key_eq key.now) memo.old.pairs) memo.old.most }
     ensures right { (m : Meaning) → MemoRight m memo.old.pairs → MemoRight m memo.new.pairs }
 {
@@ -50,9 +52,13 @@ fn taken(memo: &mut Memo<MemoKey, Known>, key: &MemoKey) -> Result<Option<Arc<Kn
 
 /// Lets the components of a part wait.
 pub fn let_wait(waiting: &mut Waiting, places: &[usize]) -> Result<(), AllocError>
-    ensures all { OnOk result ((q : ℕ) → list_any (λ k. k == q) places.now ≡ true → waits waiting.new q ≡ true) }
-    ensures stays { OnOk result ((q : ℕ) → waits waiting.old q ≡ true → waits waiting.new q ≡ true) }
-    ensures alone { OnOk result ((q : ℕ) → waits waiting.new q ≡ true → (waits waiting.old q ≡ true) ⊎ (list_any (λ k. k == q) places.now ≡ true)) }
+    ensures all { OnOk result
+        ((q : ℕ) → list_any (λ k. k == q) places.now ≡ true → waits waiting.new q ≡ true) }
+    ensures stays { OnOk result
+        ((q : ℕ) → waits waiting.old q ≡ true → waits waiting.new q ≡ true) }
+    ensures alone { OnOk result
+        ((q : ℕ) → waits waiting.new q ≡ true → (waits waiting.old q ≡ true)
+        ⊎ (list_any (λ k. k == q) places.now ≡ true)) }
 {
     for place in places {
         waiting.add(*place)?;
@@ -61,7 +67,6 @@ pub fn let_wait(waiting: &mut Waiting, places: &[usize]) -> Result<(), AllocErro
 }
 
 /// Looks a part up whose parents all have outcomes, and tells whether it was there.
-#[allow(clippy::too_many_arguments)]
 fn look_up(
     alloc: Global,
     plan: &VersionId,
@@ -74,8 +79,15 @@ fn look_up(
 ) -> Result<bool, AllocError>
     requires place { place < length known.old }
     requires ready { ready_at node.now.ups.items (shown known.old) place ≡ true }
-    ensures looked { IfOk result (λ hit. LookedUp hit (node_key plan.now node.now (lists_at (shown known.old) node.now.ups.items)) place node.now.downs.items memo.old.pairs (shown known.old) (shown known.new) front.old.items front.new.items waiting.old waiting.new) }
-    ensures front { IfOk result (λ hit. memo.new.pairs ≡ in_front (key_eq (node_key plan.now node.now (lists_at (shown known.old) node.now.ups.items))) memo.old.pairs) }
+    ensures looked { IfOk result
+        (λ hit. LookedUp hit (node_key plan.now node.now
+        (lists_at (shown known.old) node.now.ups.items)) place node.now.downs.items memo.old.pairs
+        (shown known.old) (shown known.new) front.old.items front.new.items waiting.old
+        waiting.new) }
+    ensures front { IfOk result
+        (λ hit. memo.new.pairs
+        ≡ in_front (key_eq (node_key plan.now node.now
+        (lists_at (shown known.old) node.now.ups.items))) memo.old.pairs) }
     ensures right { (m : Meaning) → MemoRight m memo.old.pairs → MemoRight m memo.new.pairs }
     ensures most { memo.new.most ≡ memo.old.most }
 {
@@ -95,7 +107,6 @@ fn look_up(
 
 /// Looks up the parts that wait, the least first, and with each hit those of its components that it makes ready. Tells how many
 /// were there; the others are left in front.
-#[allow(clippy::too_many_arguments)]
 pub fn take_hits(
     alloc: Global,
     plan: &VersionId,
@@ -109,11 +120,19 @@ pub fn take_hits(
     requires whole { length known.old ≡ length nodes.now }
     requires few { length nodes.now < 2 ^ 63 }
     requires inside { (q : ℕ) → waits waiting q ≡ true → q < length nodes.now }
-    requires all { (q : ℕ) → ready_at (ups_at nodes.now q) (shown known.old) q ≡ true → q < length nodes.now → waits waiting q ≡ true }
+    requires all { (q : ℕ) → ready_at (ups_at nodes.now q) (shown known.old) q ≡ true → q
+        < length nodes.now → waits waiting q ≡ true }
     requires empty { front.old.items ≡ [] }
-    ensures hits { IfOk result (λ reused. (cells : Cells) (netted before : ℕ) → Fits cells plan.now nodes.now → with_hits cells (state_of nodes.now (shown known.old) memo.old.pairs netted before) ≡ state_of nodes.now (shown known.new) memo.new.pairs netted (before + reused)) }
-    ensures front { IfOk result (λ reused. (cells : Cells) → Fits cells plan.now nodes.now → frontier (records cells) (parts_of (node_names nodes.now) (shown known.new)) ≡ names_at (node_names nodes.now) front.new.items) }
-    ensures places { IfOk result (λ reused. (k q : ℕ) → slice_get front.new.items k ≡ Some q → q < length nodes.now) }
+    ensures hits { IfOk result
+        (λ reused. (cells : Cells) (netted before : ℕ) → Fits cells plan.now nodes.now
+        → with_hits cells (state_of nodes.now (shown known.old) memo.old.pairs netted before)
+        ≡ state_of nodes.now (shown known.new) memo.new.pairs netted (before + reused)) }
+    ensures front { IfOk result
+        (λ reused. (cells : Cells) → Fits cells plan.now nodes.now
+        → frontier (records cells) (parts_of (node_names nodes.now) (shown known.new))
+        ≡ names_at (node_names nodes.now) front.new.items) }
+    ensures places { IfOk result
+        (λ reused. (k q : ℕ) → slice_get front.new.items k ≡ Some q → q < length nodes.now) }
     ensures right { (m : Meaning) → MemoRight m memo.old.pairs → MemoRight m memo.new.pairs }
     ensures most { memo.new.most ≡ memo.old.most }
 {

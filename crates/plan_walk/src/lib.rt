@@ -3,7 +3,9 @@
 
 mod cells;
 mod frontier;
+mod graph;
 mod hits;
+mod large;
 mod node;
 mod results;
 mod round;

@@ -36,7 +36,9 @@ pub fn value_at(known: &[Option<Arc<Known>>], place: usize) -> Option<&Known>
 
 /// What the part at a place releases, if it has an outcome.
 pub fn release_at(known: &[Option<Arc<Known>>], place: usize) -> Option<&Release>
-    ensures some { IfSome result (λ r. (has_outcome (known_in (shown known.now) place) ≡ true) × (r.now ≡ released (known_in (shown known.now) place))) }
+    ensures some { IfSome result
+        (λ r. (has_outcome (known_in (shown known.now) place) ≡ true)
+        × (r.now ≡ released (known_in (shown known.now) place))) }
     ensures none { IfNone result (has_outcome (known_in (shown known.now) place) ≡ false) }
 {
     match value_at(known, place) {
@@ -93,8 +95,10 @@ pub fn key_at(
     node: &Node,
     known: &[Option<Arc<Known>>],
 ) -> Result<MemoKey, AllocError>
-    requires { list_all (λ q. has_outcome (known_in (shown known.now) q)) node.now.ups.items ≡ true }
-    ensures { IfOk result (λ key. key ≡ node_key plan.now node.now (lists_at (shown known.now) node.now.ups.items)) }
+    requires { list_all (λ q. has_outcome (known_in (shown known.now) q)) node.now.ups.items
+        ≡ true }
+    ensures { IfOk result
+        (λ key. key ≡ node_key plan.now node.now (lists_at (shown known.now) node.now.ups.items)) }
 {
     let releases = releases_at(alloc, known, node.ups.as_slice())?;
     Ok(MemoKey {

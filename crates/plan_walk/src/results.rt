@@ -29,9 +29,14 @@ fn take_in_one(
     memo: &mut Memo<MemoKey, Known>,
 ) -> Result<bool, AllocError>
     requires place { place < length known.old }
-    requires ready { list_all (λ q. has_outcome (known_in (shown known.old) q)) node.now.ups.items ≡ true }
-    ensures known { IfOk result (λ dropped. shown known.new ≡ set (shown known.old) place (Some (arc_value value.now))) }
-    ensures put { IfOk result (λ dropped. IsPut dropped (node_key plan.now node.now (lists_at (shown known.old) node.now.ups.items)) (arc_value value.now) memo.old memo.new) }
+    requires ready { list_all (λ q. has_outcome (known_in (shown known.old) q)) node.now.ups.items
+        ≡ true }
+    ensures known { IfOk result
+        (λ dropped. shown known.new ≡ set (shown known.old) place (Some (arc_value value.now))) }
+    ensures put { IfOk result
+        (λ dropped. IsPut dropped
+        (node_key plan.now node.now (lists_at (shown known.old) node.now.ups.items))
+        (arc_value value.now) memo.old memo.new) }
     ensures same { OnErr result (known.new ≡ known.old) }
     ensures err { OnErr result (memo.new ≡ memo.old) }
 {
@@ -58,12 +63,21 @@ pub fn take_in_all(
     requires graph { IsGraph nodes.now }
     requires whole { length known.old ≡ length nodes.now }
     requires few { length nodes.now < 2 ^ 63 }
-    requires ready { (k place : ℕ) → slice_get front.now k ≡ Some place → (place < length nodes.now) × (ready_at (ups_at nodes.now place) (shown known.old) place ≡ true) }
+    requires ready { (k place : ℕ) → slice_get front.now k ≡ Some place → (place < length nodes.now)
+        × (ready_at (ups_at nodes.now place) (shown known.old) place ≡ true) }
     requires names { names_at (node_names nodes.now) front.now ≡ map (λ r. r.0) (told solved.now) }
-    ensures some { (done : ℕ) × (dropped : ℕ) × TakenIn plan.now nodes.now (shown known.old) (shown known.new) memo.old.pairs memo.new.pairs memo.old.most (told solved.now) done dropped }
-    ensures all { IfOk result (λ dropped. TakenIn plan.now nodes.now (shown known.old) (shown known.new) memo.old.pairs memo.new.pairs memo.old.most (told solved.now) (length solved.now) dropped) }
-    ensures others { IfOk result (λ dropped. (q : ℕ) → list_any (λ k. k == q) front.now ≡ false → known_in (shown known.new) q ≡ known_in (shown known.old) q) }
-    ensures learnt { IfOk result (λ dropped. (q : ℕ) → list_any (λ k. k == q) front.now ≡ true → is_none (known_in (shown known.new) q) ≡ false) }
+    ensures some { (done : ℕ) × (dropped : ℕ)
+        × TakenIn plan.now nodes.now (shown known.old) (shown known.new) memo.old.pairs
+        memo.new.pairs memo.old.most (told solved.now) done dropped }
+    ensures all { IfOk result
+        (λ dropped. TakenIn plan.now nodes.now (shown known.old) (shown known.new) memo.old.pairs
+        memo.new.pairs memo.old.most (told solved.now) (length solved.now) dropped) }
+    ensures others { IfOk result
+        (λ dropped. (q : ℕ) → list_any (λ k. k == q) front.now ≡ false
+        → known_in (shown known.new) q ≡ known_in (shown known.old) q) }
+    ensures learnt { IfOk result
+        (λ dropped. (q : ℕ) → list_any (λ k. k == q) front.now ≡ true
+        → is_none (known_in (shown known.new) q) ≡ false) }
     ensures most { memo.new.most ≡ memo.old.most }
 {
     let mut dropped = 0;
@@ -86,7 +100,6 @@ pub fn take_in_all(
 }
 
 /// Makes results known, if there are any, and lets wait what may have become ready; without results, lets wait the frontier itself.
-#[allow(clippy::too_many_arguments)]
 pub fn take_results(
     alloc: Global,
     plan: &VersionId,
@@ -100,15 +113,25 @@ pub fn take_results(
     requires graph { IsGraph nodes.now }
     requires whole { length known.old ≡ length nodes.now }
     requires few { length nodes.now < 2 ^ 63 }
-    requires ready { (k place : ℕ) → slice_get front.now k ≡ Some place → (place < length nodes.now) × (ready_at (ups_at nodes.now place) (shown known.old) place ≡ true) }
-    requires exact { (q : ℕ) → q < length nodes.now → ready_at (ups_at nodes.now q) (shown known.old) q ≡ true → list_any (λ k. k == q) front.now ≡ true }
-    requires names { (told solved.now ≡ []) ⊎ (names_at (node_names nodes.now) front.now ≡ map (λ r. r.0) (told solved.now)) }
+    requires ready { (k place : ℕ) → slice_get front.now k ≡ Some place → (place < length nodes.now)
+        × (ready_at (ups_at nodes.now place) (shown known.old) place ≡ true) }
+    requires exact { (q : ℕ) → q < length nodes.now
+        → ready_at (ups_at nodes.now q) (shown known.old) q ≡ true
+        → list_any (λ k. k == q) front.now ≡ true }
+    requires names { (told solved.now ≡ [])
+        ⊎ (names_at (node_names nodes.now) front.now ≡ map (λ r. r.0) (told solved.now)) }
     requires nobody { (q : ℕ) → waits waiting.old q ≡ false }
-    ensures some { (done : ℕ) × (dropped : ℕ) × TakenIn plan.now nodes.now (shown known.old) (shown known.new) memo.old.pairs memo.new.pairs memo.old.most (told solved.now) done dropped }
-    ensures all { IfOk result (λ dropped. TakenIn plan.now nodes.now (shown known.old) (shown known.new) memo.old.pairs memo.new.pairs memo.old.most (told solved.now) (length solved.now) dropped) }
+    ensures some { (done : ℕ) × (dropped : ℕ)
+        × TakenIn plan.now nodes.now (shown known.old) (shown known.new) memo.old.pairs
+        memo.new.pairs memo.old.most (told solved.now) done dropped }
+    ensures all { IfOk result
+        (λ dropped. TakenIn plan.now nodes.now (shown known.old) (shown known.new) memo.old.pairs
+        memo.new.pairs memo.old.most (told solved.now) (length solved.now) dropped) }
     ensures most { memo.new.most ≡ memo.old.most }
     ensures inside { OnOk result ((q : ℕ) → waits waiting.new q ≡ true → q < length nodes.now) }
-    ensures waits { OnOk result ((q : ℕ) → ready_at (ups_at nodes.now q) (shown known.new) q ≡ true → q < length nodes.now → waits waiting.new q ≡ true) }
+    ensures waits { OnOk result
+        ((q : ℕ) → ready_at (ups_at nodes.now q) (shown known.new) q ≡ true → q < length nodes.now
+        → waits waiting.new q ≡ true) }
 {
     if solved.is_empty() {
         let_wait(waiting, front)?;

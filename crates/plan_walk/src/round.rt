@@ -1,7 +1,7 @@
 //! What one settling tells.
 
 /// Whether a walk is at its end.
-#[derive(Clone, Copy, Debug, PartialEq, Eq)]
+#[derive(Clone, Copy)]
 pub enum Round {
     /// Every part is settled.
     Done,
@@ -10,7 +10,7 @@ pub enum Round {
 }
 
 /// How many parts were netted, how many were taken from the memo, and how many of the netted the memo dropped.
-#[derive(Clone, Copy, Debug, PartialEq, Eq)]
+#[derive(Clone, Copy)]
 pub struct Tally {
     pub netted: u64,
     pub reused: u64,

@@ -22,7 +22,6 @@ use std::sync::Arc;
 use walk_rules::MemoKey;
 
 /// Takes results in and then all hits; the places of the parts that are to be netted next are put into `next`.
-#[allow(clippy::too_many_arguments)]
 pub fn settle_parts(
     alloc: Global,
     plan: &VersionId,
@@ -36,13 +35,23 @@ pub fn settle_parts(
     requires graph { IsGraph nodes.now }
     requires whole { length known.old ≡ length nodes.now }
     requires few { length nodes.now < 2 ^ 63 }
-    requires ready { (k place : ℕ) → slice_get front.now k ≡ Some place → (place < length nodes.now) × (ready_at (ups_at nodes.now place) (shown known.old) place ≡ true) }
-    requires exact { (q : ℕ) → q < length nodes.now → ready_at (ups_at nodes.now q) (shown known.old) q ≡ true → list_any (λ k. k == q) front.now ≡ true }
-    requires names { (told solved.now ≡ []) ⊎ (names_at (node_names nodes.now) front.now ≡ map (λ r. r.0) (told solved.now)) }
+    requires ready { (k place : ℕ) → slice_get front.now k ≡ Some place → (place < length nodes.now)
+        × (ready_at (ups_at nodes.now place) (shown known.old) place ≡ true) }
+    requires exact { (q : ℕ) → q < length nodes.now
+        → ready_at (ups_at nodes.now q) (shown known.old) q ≡ true
+        → list_any (λ k. k == q) front.now ≡ true }
+    requires names { (told solved.now ≡ [])
+        ⊎ (names_at (node_names nodes.now) front.now ≡ map (λ r. r.0) (told solved.now)) }
     requires empty { next.old.items ≡ [] }
-    ensures settled { IfOk result (λ tally. (cells : Cells) → Fits cells plan.now nodes.now → SettledBy cells nodes.now memo.old.most (shown known.old) (shown known.new) memo.old.pairs memo.new.pairs (told solved.now) next.new.items tally) }
-    ensures places { IfOk result (λ tally. (k q : ℕ) → slice_get next.new.items k ≡ Some q → q < length nodes.now) }
-    ensures right { (m : Meaning) (cells : Cells) → Fits cells plan.now nodes.now → AreSound m cells nodes.now (shown known.old) memo.old.pairs (told solved.now) → MemoRight m memo.old.pairs → MemoRight m memo.new.pairs }
+    ensures settled { IfOk result
+        (λ tally. (cells : Cells) → Fits cells plan.now nodes.now
+        → SettledBy cells nodes.now memo.old.most (shown known.old) (shown known.new) memo.old.pairs
+        memo.new.pairs (told solved.now) next.new.items tally) }
+    ensures places { IfOk result
+        (λ tally. (k q : ℕ) → slice_get next.new.items k ≡ Some q → q < length nodes.now) }
+    ensures right { (m : Meaning) (cells : Cells) → Fits cells plan.now nodes.now
+        → AreSound m cells nodes.now (shown known.old) memo.old.pairs (told solved.now)
+        → MemoRight m memo.old.pairs → MemoRight m memo.new.pairs }
     ensures most { memo.new.most ≡ memo.old.most }
 {
     let mut waiting = Waiting::new(alloc);

@@ -1,25 +1,33 @@
 //! A walk over a plan.
-ghost use Rattle.std.specs.Prelude.{◌≡◌, ◌==◌, ◌+◌, ℕ, List, [], true, length, map, Some, IfOk, OnOk, MatchOption, slice_get};
+ghost use Rattle.std.specs.Prelude.{◌≡◌, ◌==◌, ◌+◌, ℕ, List, [], true, length, map, Some, IfOk, IfErr, OnOk, slice_get};
 ghost use Rattle.std.specs.Option.{option_copied};
 ghost use Rattle.plan_schema.specs.declared.name.Name.{Name};
 ghost use Rattle.version_rules.specs.Meaning.{Meaning};
-ghost use Rattle.walk_rules.specs.Cells.{Stands};
+ghost use Rattle.walk_rules.specs.Cells.{Stands, records};
+ghost use Rattle.plan_jobs.specs.Jobs.{IsJob, asked_by, wants_plan};
+ghost use Rattle.walk_names.specs.Names.{IsTrouble};
 ghost use Rattle.walk_rules.specs.Memo.{MemoRight};
-ghost use Rattle.walk_rules.specs.Walks.{known_at};
-ghost use Rattle.plan_walk.specs.Nodes.{node_names, names_at};
-ghost use Rattle.plan_walk.specs.Walk.{IsOpen, IsSolved, Settles, EndsSettled, round_of};
+ghost use Rattle.walk_rules.specs.Walks.{known_at, names_of};
+ghost use Rattle.planning_rules.specs.Plan.{plan};
+ghost use Rattle.planning_rules.specs.Refused.{is_large, least_name};
+ghost use Rattle.plan_walk.specs.Nodes.{names_at};
+ghost use Rattle.plan_walk.specs.Walk.{Begins, IsOpen, IsSolved, Settles, EndsSettled, round_of};
 
+use crate::graph::{nodes_of, nothing_known, ready_places, version_of};
+use crate::large::least_large;
 use crate::node::{Node, value_at};
 use crate::round::{Round, Tally};
 use crate::settle::settle_parts;
 use crate::solved::Solved;
+use low_level_codes::Numbering;
 use plan_jobs::Job;
-use plan_schema::{Known, Name};
+use plan_schema::{CellName, Known, Name};
 use record_versions::VersionId;
 use shared_memo::Memo;
 use std::alloc::{AllocError, Global};
 use std::marker::Model;
 use std::sync::Arc;
+use walk_names::{Trouble, names_by_level};
 use walk_rules::MemoKey;
 
 /// A walk over a plan: its job, its parts by level and then by name with what is known of them, and which are to be netted next.
@@ -32,6 +40,7 @@ pub struct Walk {
     pub(crate) nodes: Vec<Node>,
     pub(crate) known: Vec<Option<Arc<Known>>>,
     pub(crate) front: Vec<usize>,
+    pub(crate) places: Numbering,
 }
 
 impl Model for Walk {
@@ -45,10 +54,36 @@ impl Model for Walk {
 
     ghost view = { λ w. record { job = w.job; parts = parts_of (node_names w.nodes.items) (shown w.known.items); front = names_at (node_names w.nodes.items) w.front.items } };
 
-    ghost invariant = { λ w. IsWalk w.job w.plan w.nodes.items (length w.known.items) w.front.items };
+    ghost invariant = { λ w. IsWalk w.job w.plan w.nodes.items (length w.known.items) w.front.items w.places };
 }
 
 impl Walk {
+    /// The walk of a question about the plan of a part or of all parts, with nothing known; or the first refusal of the plan that needs
+    /// no plans.
+    pub fn prepare(alloc: Global, job: Job) -> Result<Walk, Trouble>
+        requires wants { wants_plan job.wanted ≡ true }
+        requires job { IsJob job.wanted job.cells }
+        ensures begins { IfOk result (Begins job) }
+        ensures open { IfOk result IsOpen }
+        ensures refused { let c = records job.cells in
+            IfErr result (IsTrouble c (asked_by c job.wanted) job.point) }
+    {
+        let names = names_by_level(alloc, &job)?;
+        let (nodes, places) = nodes_of(alloc, &job, names.as_slice())?;
+        let known = nothing_known(alloc, nodes.len())?;
+        let front = ready_places(alloc, nodes.as_slice(), known.as_slice())?;
+        let plan = version_of(&job.cells, &CellName::Plan);
+        Ok(Walk {
+            alloc,
+            job,
+            plan,
+            nodes,
+            known,
+            front,
+            places,
+        })
+    }
+
     /// Makes results known and puts each into the memo, and then takes all hits from it. Where there is no memory for it, the walk can
     /// only be dropped; the memo stays right.
     pub fn settle(
@@ -59,12 +94,15 @@ impl Walk {
         requires open { IsOpen self.old }
         requires solved { IsSolved self.old solved }
         requires meant { (m : Meaning) × MemoRight m memo.old.pairs × Stands m self.old.job.cells }
-        ensures settles { IfOk result (λ r. Settles self.old self.new memo.old.pairs memo.new.pairs memo.old.most solved r.0 r.1) }
+        ensures settles { IfOk result
+            (λ r. Settles self.old self.new memo.old.pairs memo.new.pairs memo.old.most solved r.0
+            r.1) }
         ensures ends { IfOk result (λ r. EndsSettled self.new r.0) }
         ensures open { OnOk result (IsOpen self.new) }
         ensures job { self.new.job ≡ self.old.job }
         ensures most { memo.new.most ≡ memo.old.most }
-        ensures right { (m : Meaning) → MemoRight m memo.old.pairs → Stands m self.old.job.cells → MemoRight m memo.new.pairs }
+        ensures right { (m : Meaning) → MemoRight m memo.old.pairs → Stands m self.old.job.cells
+            → MemoRight m memo.new.pairs }
     {
         let mut next = Vec::new(self.alloc);
         let tally = settle_parts(
@@ -118,28 +156,25 @@ impl Walk {
         Some(&self.nodes[at].name)
     }
 
-    /// What is known of a part. It goes over all parts.
+    /// What is known of a part.
     pub fn known(&self, name: &Name) -> Option<&Known>
         ensures { option_copied result ≡ known_at self.now.parts name.now }
     {
-        match place_of(self.nodes.as_slice(), name) {
+        match self.places.find(name) {
             Some(place) => value_at(self.known.as_slice(), place),
             None => None,
         }
     }
-}
 
-/// The place of a name among those of nodes.
-fn place_of(nodes: &[Node], name: &Name) -> Option<usize>
-    ensures { MatchOption result ((k : ℕ) → slice_get (node_names nodes.now) k ≡ Some name.now → ⊥)
-        (λ place. slice_get (node_names nodes.now) place ≡ Some name.now) }
-{
-    for (place, node) in nodes.iter().enumerate() {
-        if node.name == *name {
-            return Some(place);
-        }
+    /// The least name whose plan is too large, where the walk is at its end.
+    pub fn too_large(&self) -> Option<Name>
+        requires open { IsOpen self.now }
+        requires done { self.now.front ≡ [] }
+        ensures { let c = records self.now.job.cells in
+            result ≡ least_name (λ n. is_large (plan c n)) (names_of self.now.parts) }
+    {
+        least_large(self.nodes.as_slice(), self.known.as_slice())
     }
-    None
 }
 
 /// Whether a walk with this frontier is at its end.

@@ -126,6 +126,11 @@ below_all f p (q ∷ qs) (inr i) l e = by_cases (below_all f p qs i) (f q) e
         let low = again top.0 top.1 in
         (low.0, low.1, omega (arith, top.2, low.2))
 
+-- a parent of a name with a level has a lower one
+pub parent_lower : (c : Contents) (n p : Name) (l : ℕ) → IsIn p (parents c n) → level c n ≡ Some l → (m : ℕ) × (level c p ≡ Some m) × (m < l)
+unfolding HasLess
+parent_lower c n p l i e = below_all (level c) p (parents c n) i l (sym (level_is_step c n) ∙ e)
+
 is_equal : (o : Ordering) → is_eq o ≡ true → o ≡ Equal
 is_equal Less h = cc
 is_equal Equal h = refl

@@ -11,4 +11,5 @@ mod trouble;
 
 pub use level::level_of;
 pub use names::names_by_level;
+pub use refusals::earlier;
 pub use trouble::Trouble;

@@ -34,7 +34,8 @@ pub fn is_part_in(job: &Job, name: &Name) -> bool
 /// Whether a part's calendar isn't there.
 fn lacks_calendar_in(job: &Job, name: &Name) -> bool
     requires { IsJob job.now.wanted job.now.cells }
-    ensures { result ≡ lacks_calendar (records job.now.cells) (record_at (records job.now.cells) (keys.Part name.now)) }
+    ensures { result ≡ lacks_calendar (records job.now.cells)
+        (record_at (records job.now.cells) (keys.Part name.now)) }
 {
     match record_in(job, &CellName::Part(*name), &Key::Part(*name)) {
         Some(
@@ -48,7 +49,7 @@ fn lacks_calendar_in(job: &Job, name: &Name) -> bool
 }
 
 /// The earlier of two names.
-fn earlier(least: Option<Name>, name: Name) -> Option<Name>
+pub fn earlier(least: Option<Name>, name: Name) -> Option<Name>
     ensures { result ≡ earlier_of least name }
 {
     match least {

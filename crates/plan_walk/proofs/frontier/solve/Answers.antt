@@ -19,7 +19,7 @@ net_front-requires-clause-parts g c =
     let job = c.walk.inside.job in
     let right : AreRight (records job.cells) (parts_of (node_names nodes) (shown known)) = subst (λ (w : View). AreRight (records w.job.cells) w.parts) (sym c.walk.view_is) c.requires.open.right in
     let exact : names_at (node_names nodes) front ≡ frontier (records job.cells) (parts_of (node_names nodes) (shown known)) = subst (λ (w : View). w.front ≡ frontier (records w.job.cells) w.parts) (sym c.walk.view_is) c.requires.open.front in
-    let all = at_front job c.walk.inside.plan nodes (length known) front c.walk.invariant (shown known) (shown_long known ∙ c.walk.invariant.whole) right exact in
+    let all = at_front job c.walk.inside.plan nodes (length known) front c.walk.inside.places c.walk.invariant (shown known) (shown_long known ∙ c.walk.invariant.whole) right exact in
     subst (λ fs. AreAtFront job.cells c.as_slice-nodes.result.now (shown c.as_slice-known.result.now) fs) (sym c.as_slice-front.ensures.value)
     (subst (λ ks. AreAtFront job.cells c.as_slice-nodes.result.now (shown ks) front) (sym c.as_slice-known.ensures.value)
     (subst (λ (ns : List Node). AreAtFront job.cells ns (shown known) front) (sym c.as_slice-nodes.ensures.value) all))

@@ -108,7 +108,7 @@ returns-clause-open c =
     let all_right : AreRight (records cells) (parts_of (node_names nodes) (shown known)) = subst (λ (w : View). AreRight (records w.job.cells) w.parts) (sym c.self.view_is) c.requires.open.right in
     let solved : IsSolved before results = subst (λ rs. IsSolved before rs) (sym c.solved.view_is) (subst (λ (w : View). IsSolved w c.args.solved) (sym c.self.view_is) c.requires.solved) in
     let m = c.requires.meant.0 in
-    let sound = sound_of m c.self.inside.job c.self.inside.plan nodes (shown known) (length known) c.self.inside.front.items c.self.invariant (shown_long known ∙ c.self.invariant.whole) c.args.memo.now.pairs results all_right solved
+    let sound = sound_of m c.self.inside.job c.self.inside.plan nodes (shown known) (length known) c.self.inside.front.items c.self.inside.places c.self.invariant (shown_long known ∙ c.self.invariant.whole) c.args.memo.now.pairs results all_right solved
     (subst (λ (w : View). Stands m w.job.cells) (sym c.self.view_is) c.requires.meant.2) in
     let known_right : AreRight (records cells) (parts_of (node_names nodes) (shown now)) =
     right_after m cells nodes (shown known) c.args.memo.now.pairs results sound c.requires.meant.1 (shown now) pairs c.args.memo.now.most next c.in_ok-tally.tally s in
@@ -147,7 +147,7 @@ returns-clause-right c =
     let solved : IsSolved before results = subst (λ rs. IsSolved before rs) (sym c.solved.view_is) (subst (λ (w : View). IsSolved w c.args.solved) (sym c.self.view_is) c.requires.solved) in
     let fits : Fits cells c.self.inside.plan c.as_slice.result.now = subst (λ (ns : List Node). Fits cells c.self.inside.plan ns) (sym c.as_slice.ensures.value) c.self.invariant.fits in
     λ m memo_right stands.
-    let sound = sound_of m c.self.inside.job c.self.inside.plan nodes (shown known) (length known) c.self.inside.front.items c.self.invariant (shown_long known ∙ c.self.invariant.whole) c.args.memo.now.pairs results all_right solved
+    let sound = sound_of m c.self.inside.job c.self.inside.plan nodes (shown known) (length known) c.self.inside.front.items c.self.inside.places c.self.invariant (shown_long known ∙ c.self.invariant.whole) c.args.memo.now.pairs results all_right solved
     (subst (λ (w : View). Stands m w.job.cells) (sym c.self.view_is) stands) in
     let slices : AreSound m cells c.as_slice.result.now (shown c.as_mut_slice.result.now) c.args.memo.now.pairs (told c.as_slice-3.result.now) =
     subst (λ rs. AreSound m cells c.as_slice.result.now (shown c.as_mut_slice.result.now) c.args.memo.now.pairs (told rs)) (sym c.as_slice-3.ensures.value)
@@ -166,7 +166,7 @@ returns-in_err-tally-clause-right c =
     let solved : IsSolved before results = subst (λ rs. IsSolved before rs) (sym c.solved.view_is) (subst (λ (w : View). IsSolved w c.args.solved) (sym c.self.view_is) c.requires.solved) in
     let fits : Fits cells c.self.inside.plan c.as_slice.result.now = subst (λ (ns : List Node). Fits cells c.self.inside.plan ns) (sym c.as_slice.ensures.value) c.self.invariant.fits in
     λ m memo_right stands.
-    let sound = sound_of m c.self.inside.job c.self.inside.plan nodes (shown known) (length known) c.self.inside.front.items c.self.invariant (shown_long known ∙ c.self.invariant.whole) c.args.memo.now.pairs results all_right solved
+    let sound = sound_of m c.self.inside.job c.self.inside.plan nodes (shown known) (length known) c.self.inside.front.items c.self.inside.places c.self.invariant (shown_long known ∙ c.self.invariant.whole) c.args.memo.now.pairs results all_right solved
     (subst (λ (w : View). Stands m w.job.cells) (sym c.self.view_is) stands) in
     let slices : AreSound m cells c.as_slice.result.now (shown c.as_mut_slice.result.now) c.args.memo.now.pairs (told c.as_slice-3.result.now) =
     subst (λ rs. AreSound m cells c.as_slice.result.now (shown c.as_mut_slice.result.now) c.args.memo.now.pairs (told rs)) (sym c.as_slice-3.ensures.value)

@@ -1,0 +1,4 @@
+pub mod Keys
+pub mod State
+pub mod Holds
+pub mod Reclaims

@@ -1,0 +1,10 @@
+//! What the book of a plan does, as one value: the scenarios after a history of accepted changes, the journal of these, and the memo.
+#![tactic(auto)]
+
+mod began;
+mod kept;
+mod keys;
+mod tally;
+
+pub use kept::Core;
+pub use tally::Tally;

@@ -30,7 +30,8 @@ fn net_front<L: Ledger>(
     requires job { IsJob job.now.wanted job.now.cells }
     requires parts { AreAtFront job.now.cells nodes.now (shown known.now) front.now }
     requires places { (k q : ℕ) → slice_get front.now k ≡ Some q → q < length nodes.now }
-    ensures netted { IfOk result (λ results. AreNetted job.now.cells (parts_of (node_names nodes.now) (shown known.now))
+    ensures netted { IfOk result (λ results. AreNetted job.now.cells
+        (parts_of (node_names nodes.now) (shown known.now))
         (names_at (node_names nodes.now) front.now) (told results.items)) }
     ensures steps { OnOk result (steps.new ≡ steps.old + length front.now) }
 {

@@ -11,6 +11,8 @@ mod results;
 mod round;
 mod settle;
 mod solved;
+#[cfg(test)]
+mod tests;
 mod waiting;
 mod walk;
 

@@ -52,9 +52,14 @@ impl Model for Walk {
 
     ghost Value = { View };
 
-    ghost view = { λ w. record { job = w.job; parts = parts_of (node_names w.nodes.items) (shown w.known.items); front = names_at (node_names w.nodes.items) w.front.items } };
+    ghost view = { λ w. record {
+      job = w.job;
+      parts = parts_of (node_names w.nodes.items) (shown w.known.items);
+      front = names_at (node_names w.nodes.items) w.front.items;
+    } };
 
-    ghost invariant = { λ w. IsWalk w.job w.plan w.nodes.items (length w.known.items) w.front.items w.places };
+    ghost invariant = { λ w.
+        IsWalk w.job w.plan w.nodes.items (length w.known.items) w.front.items w.places };
 }
 
 impl Walk {

@@ -29,7 +29,10 @@ impl Model for Cutter {
 
     ghost Value = { LineSoFar };
 
-    ghost view = { λ a. record { kept = (if a.is_long then None else Some a.bytes.items); is_complete = a.is_complete } };
+    ghost view = { λ a. record {
+      kept = (if a.is_long then None else Some a.bytes.items);
+      is_complete = a.is_complete;
+    } };
 
     ghost invariant = { λ a. length a.bytes.items ≤ kept_limit };
 }
@@ -61,7 +64,8 @@ impl Cutter {
             ≡ line_before (line_of self.new.kept) (lines_from (Some []) (drop result.0 piece.now)) }
 
         // The piece completes no line.
-        ensures begun { result.1 ≡ false → lines_from self.old.kept piece.now ≡ ([], self.new.kept) }
+        ensures begun { result.1 ≡ false
+            → lines_from self.old.kept piece.now ≡ ([], self.new.kept) }
         ensures all { result.1 ≡ false → result.0 ≡ length piece.now }
     {
         match line_feed_in(piece) {
@@ -148,9 +152,11 @@ fn cut_return(text: &[u8]) -> &[u8]
 
 /// A law: the lines of a stream don't depend on how it is cut into pieces.
 pub fn lines_of_pieces_are_lines_of_all()
-    ensures pieces { (kept : Option (List ℕ)) (first second : List ℕ) → lines_from kept (first ++ second)
+    ensures pieces { (kept : Option (List ℕ)) (first second : List ℕ)
+        → lines_from kept (first ++ second)
         ≡ lines_joined (lines_from kept first) (lines_from (lines_from kept first).1 second) }
-    ensures after { (kept : Option (List ℕ)) (first second : List ℕ) → lines_after kept (first ++ second)
+    ensures after { (kept : Option (List ℕ)) (first second : List ℕ)
+        → lines_after kept (first ++ second)
         ≡ (lines_from kept first).0 ++ lines_after (lines_from kept first).1 second }
 {}
 

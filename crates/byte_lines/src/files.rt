@@ -81,9 +81,12 @@ pub struct FileShelf<'a, R: Files + Print> {
 impl<'a, R: Files + Print> FileShelf<'a, R> {
     /// The files of a runtime.
     pub fn new(alloc: Global, runtime: &'a R) -> FileShelf<'a, R>
-        ensures opens { (name : List ℕ) → ⟦<FileShelf<'a, R> as Shelf>⟧.open_faults result name ≡ 0 }
-        ensures reads { (name : List ℕ) → ⟦<FileShelf<'a, R> as Shelf>⟧.read_faults result name ≡ 0 }
-        ensures writes { (name : List ℕ) → ⟦<FileShelf<'a, R> as Shelf>⟧.write_faults result name ≡ 0 }
+        ensures opens { (name : List ℕ)
+            → ⟦<FileShelf<'a, R> as Shelf>⟧.open_faults result name ≡ 0 }
+        ensures reads { (name : List ℕ)
+            → ⟦<FileShelf<'a, R> as Shelf>⟧.read_faults result name ≡ 0 }
+        ensures writes { (name : List ℕ)
+            → ⟦<FileShelf<'a, R> as Shelf>⟧.write_faults result name ≡ 0 }
     {
         FileShelf {
             rows: Rows::End,

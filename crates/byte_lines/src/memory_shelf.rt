@@ -41,12 +41,18 @@ impl MemoryShelf {
 
     /// Makes a name hold these bytes.
     pub fn put(&mut self, name: &str, bytes: &[u8]) -> Result<(), AllocError>
-        ensures ok { OnOk result (⟦<MemoryShelf as Shelf>⟧.held self.new name.now ≡ Some bytes.now) }
-        ensures others { StaysBut name.now (⟦<MemoryShelf as Shelf>⟧.held self.old) (⟦<MemoryShelf as Shelf>⟧.held self.new) }
-        ensures err { OnErr result (Stays (⟦<MemoryShelf as Shelf>⟧.held self.old) (⟦<MemoryShelf as Shelf>⟧.held self.new)) }
-        ensures opens { Stays (⟦<MemoryShelf as Shelf>⟧.open_faults self.old) (⟦<MemoryShelf as Shelf>⟧.open_faults self.new) }
-        ensures reads { Stays (⟦<MemoryShelf as Shelf>⟧.read_faults self.old) (⟦<MemoryShelf as Shelf>⟧.read_faults self.new) }
-        ensures writes { Stays (⟦<MemoryShelf as Shelf>⟧.write_faults self.old) (⟦<MemoryShelf as Shelf>⟧.write_faults self.new) }
+        ensures ok { OnOk result (⟦<MemoryShelf as Shelf>⟧.held self.new name.now
+            ≡ Some bytes.now) }
+        ensures others { StaysBut name.now (⟦<MemoryShelf as Shelf>⟧.held self.old)
+            (⟦<MemoryShelf as Shelf>⟧.held self.new) }
+        ensures err { OnErr result (Stays (⟦<MemoryShelf as Shelf>⟧.held self.old)
+            (⟦<MemoryShelf as Shelf>⟧.held self.new)) }
+        ensures opens { Stays (⟦<MemoryShelf as Shelf>⟧.open_faults self.old)
+            (⟦<MemoryShelf as Shelf>⟧.open_faults self.new) }
+        ensures reads { Stays (⟦<MemoryShelf as Shelf>⟧.read_faults self.old)
+            (⟦<MemoryShelf as Shelf>⟧.read_faults self.new) }
+        ensures writes { Stays (⟦<MemoryShelf as Shelf>⟧.write_faults self.old)
+            (⟦<MemoryShelf as Shelf>⟧.write_faults self.new) }
     {
         let room = Room::new(self.alloc, name)?;
         let mut copy = Bytes::new(self.alloc);
@@ -57,7 +63,8 @@ impl MemoryShelf {
 
     /// What a name holds, or `None` where it was neither put nor given back.
     pub fn held(&self, name: &str) -> Option<&[u8]>
-        ensures some { IfSome result (λ bytes. ⟦<MemoryShelf as Shelf>⟧.held self.now name.now ≡ Some bytes.now) }
+        ensures some { IfSome result (λ bytes. ⟦<MemoryShelf as Shelf>⟧.held self.now name.now
+            ≡ Some bytes.now) }
         ensures none { IfNone result (⟦<MemoryShelf as Shelf>⟧.held self.now name.now ≡ Some []) }
     {
         self.rows.held(name)
@@ -73,7 +80,8 @@ impl MemoryShelf {
 
     // The source of what a name holds.
     fn source(&self, name: &str) -> Result<MemoryIn, AllocError>
-        ensures left { IfOk result (λ device. ⟦<MemoryIn as Source>⟧.left device ≡ Some (held_in self.now.rows name.now)) }
+        ensures left { IfOk result (λ device. ⟦<MemoryIn as Source>⟧.left device
+            ≡ Some (held_in self.now.rows name.now)) }
         ensures faults { IfOk result (λ device. ⟦<MemoryIn as Source>⟧.faults device ≡ 0) }
     {
         let bytes = self.rows.copy_held(self.alloc, name)?;
@@ -141,5 +149,6 @@ impl Shelf for MemoryShelf {
 
 /// A law: the shelf tells what each name holds.
 pub fn memory_shelves_tell()
-    ensures { (shelf : MemoryShelf) (name : List ℕ) → IsSome (⟦<MemoryShelf as Shelf>⟧.held shelf name) }
+    ensures { (shelf : MemoryShelf) (name : List ℕ)
+        → IsSome (⟦<MemoryShelf as Shelf>⟧.held shelf name) }
 {}

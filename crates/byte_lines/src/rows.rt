@@ -222,7 +222,8 @@ impl Rows {
 
     /// Counts the writes to a sink that failed, and notes how many calls there were.
     pub(crate) fn add_write_faults(&mut self, room: Room, more: u64, calls: u64)
-        ensures count { Counted room.name more (write_faults_in self.old) (write_faults_in self.new) }
+        ensures count { Counted room.name more (write_faults_in self.old)
+            (write_faults_in self.new) }
         ensures holds { Stays (held_in self.old) (held_in self.new) }
         ensures opens { Stays (open_faults_in self.old) (open_faults_in self.new) }
         ensures reads { Stays (read_faults_in self.old) (read_faults_in self.new) }
@@ -237,7 +238,8 @@ impl Rows {
     pub(crate) fn add_written(&mut self, room: Room, bytes: Bytes, more: u64, calls: u64)
         ensures here { held_in self.new room.name ≡ bytes }
         ensures others { StaysBut room.name (held_in self.old) (held_in self.new) }
-        ensures count { Counted room.name more (write_faults_in self.old) (write_faults_in self.new) }
+        ensures count { Counted room.name more (write_faults_in self.old)
+            (write_faults_in self.new) }
         ensures opens { Stays (open_faults_in self.old) (open_faults_in self.new) }
         ensures reads { Stays (read_faults_in self.old) (read_faults_in self.new) }
     {

@@ -30,9 +30,12 @@ impl SteadyShelf {
 
     /// Makes a name hold these bytes.
     pub fn put(&mut self, name: &str, bytes: &[u8]) -> Result<(), AllocError>
-        ensures ok { OnOk result (⟦<SteadyShelf as Shelf>⟧.held self.new name.now ≡ Some bytes.now) }
-        ensures others { StaysBut name.now (⟦<SteadyShelf as Shelf>⟧.held self.old) (⟦<SteadyShelf as Shelf>⟧.held self.new) }
-        ensures err { OnErr result (Stays (⟦<SteadyShelf as Shelf>⟧.held self.old) (⟦<SteadyShelf as Shelf>⟧.held self.new)) }
+        ensures ok { OnOk result (⟦<SteadyShelf as Shelf>⟧.held self.new name.now
+            ≡ Some bytes.now) }
+        ensures others { StaysBut name.now (⟦<SteadyShelf as Shelf>⟧.held self.old)
+            (⟦<SteadyShelf as Shelf>⟧.held self.new) }
+        ensures err { OnErr result (Stays (⟦<SteadyShelf as Shelf>⟧.held self.old)
+            (⟦<SteadyShelf as Shelf>⟧.held self.new)) }
     {
         let room = Room::new(self.alloc, name)?;
         let mut copy = Bytes::new(self.alloc);
@@ -43,7 +46,8 @@ impl SteadyShelf {
 
     /// What a name holds, or `None` where it was neither put nor given back.
     pub fn held(&self, name: &str) -> Option<&[u8]>
-        ensures some { IfSome result (λ bytes. ⟦<SteadyShelf as Shelf>⟧.held self.now name.now ≡ Some bytes.now) }
+        ensures some { IfSome result (λ bytes. ⟦<SteadyShelf as Shelf>⟧.held self.now name.now
+            ≡ Some bytes.now) }
         ensures none { IfNone result (⟦<SteadyShelf as Shelf>⟧.held self.now name.now ≡ Some []) }
     {
         self.rows.held(name)
@@ -94,8 +98,12 @@ impl Shelf for SteadyShelf {
 
 /// A law: the shelf tells what each name holds, and counts no fault.
 pub fn steady_shelves_tell_and_count_no_fault()
-    ensures tells { (shelf : SteadyShelf) (name : List ℕ) → IsSome (⟦<SteadyShelf as Shelf>⟧.held shelf name) }
-    ensures opens { (shelf : SteadyShelf) (name : List ℕ) → ⟦<SteadyShelf as Shelf>⟧.open_faults shelf name ≡ 0 }
-    ensures reads { (shelf : SteadyShelf) (name : List ℕ) → ⟦<SteadyShelf as Shelf>⟧.read_faults shelf name ≡ 0 }
-    ensures writes { (shelf : SteadyShelf) (name : List ℕ) → ⟦<SteadyShelf as Shelf>⟧.write_faults shelf name ≡ 0 }
+    ensures tells { (shelf : SteadyShelf) (name : List ℕ)
+        → IsSome (⟦<SteadyShelf as Shelf>⟧.held shelf name) }
+    ensures opens { (shelf : SteadyShelf) (name : List ℕ)
+        → ⟦<SteadyShelf as Shelf>⟧.open_faults shelf name ≡ 0 }
+    ensures reads { (shelf : SteadyShelf) (name : List ℕ)
+        → ⟦<SteadyShelf as Shelf>⟧.read_faults shelf name ≡ 0 }
+    ensures writes { (shelf : SteadyShelf) (name : List ℕ)
+        → ⟦<SteadyShelf as Shelf>⟧.write_faults shelf name ≡ 0 }
 {}

@@ -32,7 +32,8 @@ impl<K: Ord, V> Model for Piece<K, V> {
 
     ghost view = { λ p. shown p.pairs.items };
 
-    ghost invariant = { λ p. (0 < length p.pairs.items) × (length p.pairs.items ≤ 64) × IsStrictlySortedBy K.cmp (keys_of p.pairs.items) };
+    ghost invariant = { λ p. (0 < length p.pairs.items)
+        × (length p.pairs.items ≤ 64) × IsStrictlySortedBy K.cmp (keys_of p.pairs.items) };
 }
 
 impl<K: Ord + Copy, V> Piece<K, V> {
@@ -50,7 +51,8 @@ impl<K: Ord + Copy, V> Piece<K, V> {
     }
 
     pub(crate) fn get(&self, key: &K) -> Option<&Arc<V>>
-        ensures { option_map (λ v. arc_value v.now) result ≡ lookup (is_at (K.cmp key.now)) self.now }
+        ensures { option_map (λ v. arc_value v.now) result
+            ≡ lookup (is_at (K.cmp key.now)) self.now }
     {
         match place_of(&self.pairs, key) {
             Ok(place) => Some(&self.pairs[place].1),
@@ -70,7 +72,8 @@ impl<K: Ord + Copy, V: Drop> Piece<K, V> {
 
     /// With the value under the key: one piece, or two where there is no room for one more pair.
     pub(crate) fn with(&self, key: K, value: Arc<V>) -> Result<(Self, Option<Self>), AllocError>
-        ensures { IfOk result (λ p. p.0 ++ unwrap_or p.1 [] ≡ insert_entry K.cmp self.now key (arc_value value)) }
+        ensures { IfOk result (λ p. p.0 ++ unwrap_or p.1 []
+            ≡ insert_entry K.cmp self.now key (arc_value value)) }
     {
         let cut = cut_for(&self.pairs, key);
         let mut pairs = Vec::with_capacity(*self.pairs.allocator(), self.pairs.len() + 1)?;
@@ -84,7 +87,8 @@ impl<K: Ord + Copy, V: Drop> Piece<K, V> {
 
     /// Puts the value under the key in place: an error where there is no room for one more pair.
     pub(crate) fn put(&mut self, key: K, value: &Arc<V>) -> Result<(), AllocError>
-        ensures ok { OnOk result (self.new ≡ insert_entry K.cmp self.old key (arc_value value.now)) }
+        ensures ok { OnOk result (self.new
+            ≡ insert_entry K.cmp self.old key (arc_value value.now)) }
         ensures err { OnErr result (self.new ≡ self.old) }
     {
         let value = Arc::try_clone(value)?;
@@ -106,7 +110,8 @@ impl<K: Ord + Copy, V: Drop> Piece<K, V> {
 
     /// Without the key and its value: nothing where it was the last.
     pub(crate) fn without(&self, key: &K) -> Result<Option<Self>, AllocError>
-        ensures { IfOk result (λ p. unwrap_or p [] ≡ remove_entry (is_at (K.cmp key.now)) self.now) }
+        ensures { IfOk result (λ p. unwrap_or p []
+            ≡ remove_entry (is_at (K.cmp key.now)) self.now) }
     {
         let cut = cut_for(&self.pairs, *key);
         let mut pairs = Vec::with_capacity(*self.pairs.allocator(), self.pairs.len())?;

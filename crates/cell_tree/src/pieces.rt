@@ -31,7 +31,9 @@ impl<K: Ord, V> Model for Pieces<K, V> {
 
     ghost view = { λ p. all_pairs p.list.items };
 
-    ghost invariant = { λ p. (0 < length p.list.items) × (p.len ≡ length (all_pairs p.list.items)) × IsStrictlySortedBy K.cmp (keys_of (all_pairs p.list.items)) };
+    ghost invariant = { λ p. (0 < length p.list.items)
+        × (p.len ≡ length (all_pairs p.list.items))
+        × IsStrictlySortedBy K.cmp (keys_of (all_pairs p.list.items)) };
 }
 
 impl<K: Ord + Copy, V> Pieces<K, V> {
@@ -50,7 +52,8 @@ impl<K: Ord + Copy, V> Pieces<K, V> {
     }
 
     pub(crate) fn get(&self, key: &K) -> Option<&Arc<V>>
-        ensures { option_map (λ v. arc_value v.now) result ≡ lookup (is_at (K.cmp key.now)) self.now }
+        ensures { option_map (λ v. arc_value v.now) result
+            ≡ lookup (is_at (K.cmp key.now)) self.now }
     {
         let place = piece_for(&self.list, key);
         self.list[place].get(key)
@@ -114,7 +117,8 @@ impl<K: Ord + Copy, V: Drop> Pieces<K, V> {
     /// Nothing where no pair is left.
     pub(crate) fn without(&self, key: &K) -> Result<Option<Self>, AllocError>
         requires { IsSome (lookup (is_at (K.cmp key.now)) self.now) }
-        ensures { IfOk result (λ p. unwrap_or p [] ≡ remove_entry (is_at (K.cmp key.now)) self.now) }
+        ensures { IfOk result (λ p. unwrap_or p []
+            ≡ remove_entry (is_at (K.cmp key.now)) self.now) }
     {
         let mut list = self.list_without(key)?;
         if list.is_empty() {
@@ -146,7 +150,8 @@ impl<K: Ord + Copy, V: Drop> Pieces<K, V> {
 
     // How many pairs there are with one under the key: nothing where they are too many to count.
     fn len_with(&self, key: &K) -> Option<usize>
-        ensures { IfSome result (λ n. (value : V) → n ≡ length (insert_entry K.cmp self.now key.now value)) }
+        ensures { IfSome result (λ n. (value : V)
+            → n ≡ length (insert_entry K.cmp self.now key.now value)) }
     {
         if self.get(key).is_some() {
             Some(self.len)
@@ -156,7 +161,8 @@ impl<K: Ord + Copy, V: Drop> Pieces<K, V> {
     }
 
     fn list_with(&self, key: K, value: Arc<V>) -> Result<Vec<Arc<Piece<K, V>>>, AllocError>
-        ensures pairs { IfOk result (λ v. all_pairs v.items ≡ insert_entry K.cmp self.now key (arc_value value)) }
+        ensures pairs { IfOk result (λ v. all_pairs v.items
+            ≡ insert_entry K.cmp self.now key (arc_value value)) }
         ensures sorted { IfOk result (λ v. IsStrictlySortedBy K.cmp (keys_of (all_pairs v.items))) }
     {
         let place = piece_for(&self.list, &key);
@@ -165,7 +171,8 @@ impl<K: Ord + Copy, V: Drop> Pieces<K, V> {
     }
 
     fn list_without(&self, key: &K) -> Result<Vec<Arc<Piece<K, V>>>, AllocError>
-        ensures pairs { IfOk result (λ v. all_pairs v.items ≡ remove_entry (is_at (K.cmp key.now)) self.now) }
+        ensures pairs { IfOk result (λ v. all_pairs v.items
+            ≡ remove_entry (is_at (K.cmp key.now)) self.now) }
         ensures sorted { IfOk result (λ v. IsStrictlySortedBy K.cmp (keys_of (all_pairs v.items))) }
     {
         let place = piece_for(&self.list, key);
@@ -203,7 +210,10 @@ fn replaced<K: Ord + Copy, V: Drop>(
     upper: Option<Piece<K, V>>,
 ) -> Result<Vec<Arc<Piece<K, V>>>, AllocError>
     requires { place < length pieces.now.items }
-    ensures { IfOk result (λ v. all_pairs v.items ≡ all_pairs (take place pieces.now.items) ++ (unwrap_or lower [] ++ unwrap_or upper []) ++ all_pairs (drop (place + 1) pieces.now.items)) }
+    ensures { IfOk result (λ v. all_pairs v.items
+        ≡ all_pairs (take place pieces.now.items)
+        ++ (unwrap_or lower [] ++ unwrap_or upper [])
+        ++ all_pairs (drop (place + 1) pieces.now.items)) }
 {
     let mut list = Vec::with_capacity(*pieces.allocator(), pieces.len() + 1)?;
     share_pieces(&mut list, &pieces[..place])?;
@@ -224,7 +234,8 @@ fn put_within<K: Ord + Copy, V: Drop>(
     requires in_range { place < length pieces.old.items }
     requires below { IsBelow K.cmp key (all_pairs (take place pieces.old.items)) }
     requires above { IsAbove K.cmp key (all_pairs (drop (place + 1) pieces.old.items)) }
-    ensures ok { OnOk result (all_pairs pieces.new.items ≡ insert_entry K.cmp (all_pairs pieces.old.items) key (arc_value value.now)) }
+    ensures ok { OnOk result (all_pairs pieces.new.items
+        ≡ insert_entry K.cmp (all_pairs pieces.old.items) key (arc_value value.now)) }
     ensures err { OnErr result (all_pairs pieces.new.items ≡ all_pairs pieces.old.items) }
     ensures len { length pieces.new.items ≡ length pieces.old.items }
 {
@@ -244,7 +255,8 @@ fn take_within<K: Ord + Copy, V: Drop>(
     requires in_range { place < length pieces.old.items }
     requires below { IsBelow K.cmp key.now (all_pairs (take place pieces.old.items)) }
     requires above { IsAbove K.cmp key.now (all_pairs (drop (place + 1) pieces.old.items)) }
-    ensures ok { OnOk result (all_pairs pieces.new.items ≡ remove_entry (is_at (K.cmp key.now)) (all_pairs pieces.old.items)) }
+    ensures ok { OnOk result (all_pairs pieces.new.items
+        ≡ remove_entry (is_at (K.cmp key.now)) (all_pairs pieces.old.items)) }
     ensures err { OnErr result (all_pairs pieces.new.items ≡ all_pairs pieces.old.items) }
     ensures len { length pieces.new.items ≡ length pieces.old.items }
 {

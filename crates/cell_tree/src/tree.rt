@@ -76,7 +76,8 @@ impl<K: Ord + Copy, V> Tree<K, V> {
 
     /// The value under the key.
     pub fn get(&self, key: &K) -> Option<&Arc<V>>
-        ensures { option_map (λ v. arc_value v.now) result ≡ lookup (is_at (K.cmp key.now)) self.now }
+        ensures { option_map (λ v. arc_value v.now) result
+            ≡ lookup (is_at (K.cmp key.now)) self.now }
     {
         self.root.as_ref()?.get(key)
     }

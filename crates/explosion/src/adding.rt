@@ -71,7 +71,8 @@ pub fn add_row(
     requires sound { is_sound_row key.now value.now ≡ true }
     ensures next { result ≡ next + bill_count (key.now, value.now) }
     ensures sums { (t : ℕ) → t < length sums.old → slice_index sums.new t
-        ≡ slice_index sums.old t + row_adds start (key.now, value.now) (list_at releases.now next) t }
+        ≡ slice_index sums.old t + row_adds start (key.now, value.now) (list_at releases.now next)
+        t }
 {
     match (key, value) {
         (Key::Demand(_, _), Record::Demand { day, qty }) => {

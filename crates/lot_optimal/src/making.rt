@@ -25,9 +25,12 @@ pub fn costs(
     requires days { length short.now ≤ 400 }
     requires reach { All InReach short.now }
     requires planned { planned.now ≡ best setup hold (needs (map shortage short.now)) }
-    ensures rows { IfOk result (λ costs. costs.rows ≡ rows_of setup hold 0 (needs (map shortage short.now)) planned.now) }
-    ensures cost { IfOk result (λ costs. costs.cost ≡ least_cost setup hold (needs (map shortage short.now))) }
-    ensures passes { IfOk result (λ costs. is_proof setup hold (map shortage short.now) costs ≡ true) }
+    ensures rows { IfOk result (λ costs. costs.rows
+        ≡ rows_of setup hold 0 (needs (map shortage short.now)) planned.now) }
+    ensures cost { IfOk result (λ costs. costs.cost
+        ≡ least_cost setup hold (needs (map shortage short.now))) }
+    ensures passes { IfOk result (λ costs. is_proof setup hold (map shortage short.now) costs
+        ≡ true) }
 {
     let mut wants = [0u64; 400];
     let mut potentials = [0u128; 400];

@@ -49,7 +49,8 @@ impl Graph {
         ensures downs { OnOk result (length self.new.downs.items ≡ length self.new.names) }
         ensures graph { OnOk result ((bills : List (Name × Name))
             → IsGraph bills self.old.names (shown self.old.ups.items) (shown self.old.downs.items)
-            → IsGraph bills self.new.names (shown self.new.ups.items) (shown self.new.downs.items)) }
+            → IsGraph bills self.new.names (shown self.new.ups.items)
+            (shown self.new.downs.items)) }
     {
         let place = self.names.number(name)?;
         if place == self.ups.len() {
@@ -96,7 +97,8 @@ impl Graph {
         ensures stand { IfOk result (λ places. StandAt self.new.names places.items names.now) }
         ensures graph { OnOk result ((bills : List (Name × Name))
             → IsGraph bills self.old.names (shown self.old.ups.items) (shown self.old.downs.items)
-            → IsGraph bills self.new.names (shown self.new.ups.items) (shown self.new.downs.items)) }
+            → IsGraph bills self.new.names (shown self.new.ups.items)
+            (shown self.new.downs.items)) }
     {
         let mut places = Vec::new(alloc);
         for name in names {

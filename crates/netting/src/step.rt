@@ -167,8 +167,11 @@ fn plan_days(alloc: Global, input: &Input) -> Result<Days, NetFault>
     requires { IsWithin input.now }
     ensures netted { IfOk result (λ o. Netted (given input.now) o.planned.items) }
     ensures small { IfOk result (λ o. All (λ n. n ≤ limit) o.planned.items) }
-    ensures balance { IfOk result (λ o. o.balance.items ≡ balances (given input.now) o.planned.items) }
-    ensures large { IfErr result (λ e. WhereLarge e ((p : List ℕ) → Netted (given input.now) p → IsTrue (exceeds p))) }
+    ensures balance { IfOk result (λ o. o.balance.items
+        ≡ balances (given input.now) o.planned.items) }
+    ensures large { IfErr result (λ e. WhereLarge e ((p : List ℕ)
+        → Netted (given input.now) p
+        → IsTrue (exceeds p))) }
 {
     let gross = input.gross.as_slice();
     let sched = input.sched.as_slice();
@@ -202,7 +205,9 @@ fn plan_days(alloc: Global, input: &Input) -> Result<Days, NetFault>
 /// The day on which an order for a day is released, and whether the order is late, from the working days before it, the earliest
 /// first. Its work is the same for each lead time.
 fn release_day(passed: &[u16], day: u16, lead: u16) -> (u16, bool)
-    ensures { (calendar : List Bool) → passed.now ≡ reverse (working_before calendar day) → result ≡ back calendar day lead }
+    ensures { (calendar : List Bool)
+        → passed.now ≡ reverse (working_before calendar day)
+        → result ≡ back calendar day lead }
 {
     if lead == 0 {
         return (day, false);
@@ -260,7 +265,9 @@ pub fn net<L: Ledger>(
     ensures netted { IfOk result (λ o. Netted (given input.now) o.planned) }
     ensures outcome { IfOk result (λ o. told o ≡ outcome_from (given input.now) o.planned) }
     ensures fits { IfOk result (λ o. is_too_large (given input.now) o.planned ≡ false) }
-    ensures large { IfErr result (λ e. WhereLarge e ((p : List ℕ) → Netted (given input.now) p → IsTrue (is_too_large (given input.now) p))) }
+    ensures large { IfErr result (λ e. WhereLarge e ((p : List ℕ)
+        → Netted (given input.now) p
+        → IsTrue (is_too_large (given input.now) p))) }
     ensures steps { steps.new ≡ steps.old + 1 }
 {
     steps.tick();

@@ -38,8 +38,8 @@ fn input(
     requires calendar { length calendar ≡ days }
     requires lists { AreReleases days releases.now }
     requires each { length (bills_in cell.now) ≤ length releases.now }
-    ensures input { IfOk result (λ input. input_by cell.now name.now start.now days calendar releases.now
-        ≡ Some (given input)) }
+    ensures input { IfOk result (λ input.
+        input_by cell.now name.now start.now days calendar releases.now ≡ Some (given input)) }
     ensures within { IfOk result IsWithin }
     ensures large { result ≡ Err TooLarge
         → exceeds (gross_by cell.now start.now days releases.now) ≡ true }
@@ -91,8 +91,8 @@ pub fn step<L: Ledger>(
     requires calendar { length calendar ≡ days }
     requires lists { AreReleases days releases.now }
     requires each { length (bills_in cell.now) ≤ length releases.now }
-    ensures known { IfOk result (λ known. known_by cell.now name.now start.now days calendar releases.now
-        ≡ Some known) }
+    ensures known { IfOk result (λ known.
+        known_by cell.now name.now start.now days calendar releases.now ≡ Some known) }
     ensures steps { OnOk result (steps.new ≡ steps.old + 1) }
 {
     match input(alloc, cell, name, start, calendar, days, releases) {

@@ -101,7 +101,8 @@ fn add_bills(
     requires start { start < 36525 }
     requires lists { (k : ℕ) → k < length releases.now → at < length (list_at releases.now k) }
     requires each { length (bills_in cell.now) ≤ length releases.now }
-    requires fits { asked_of start at (demands_in cell.now) (bills_in cell.now) releases.now ≤ limit }
+    requires fits { asked_of start at (demands_in cell.now) (bills_in cell.now) releases.now
+        ≤ limit }
     ensures { OnOk result (map shown pegs.new
         ≡ map shown pegs.old ++ bill_pegs start at (bills_in cell.now) releases.now) }
 {

@@ -22,14 +22,16 @@ pub trait PlanBook: Storied<Entry = Entry, Basis = Ground> {
     ) -> Result<u64, BookFault>
         requires sound { is_sound_entry (entry_for session line user.now change) ≡ true }
         requires single { is_of_one_record change ≡ true }
-        ensures { HasChanged Self.story Self.faults Self.basis self.old self.new (entry_for session line user.now change) result };
+        ensures { HasChanged Self.story Self.faults Self.basis self.old self.new
+            (entry_for session line user.now change) result };
 
     /// The records of a scenario after all entries, with the number of entries.
     fn read<'a>(&'a self, user: &Name, scenario: &Name) -> Result<(u64, &'a Contents), BookFault>
         ensures ok { IfOk result
             (λ read. IsRead (Self.basis self.now) (Self.story self.now) user.now scenario.now read.0
             read.1.now) }
-        ensures err { IfErr result (IsReadFault (Self.basis self.now) (Self.story self.now) user.now scenario.now) };
+        ensures err { IfErr result (IsReadFault (Self.basis self.now) (Self.story self.now)
+            user.now scenario.now) };
 
     /// How many entries there are.
     fn point(&self) -> u64

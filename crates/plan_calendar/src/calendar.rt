@@ -86,7 +86,8 @@ impl Calendar {
 /// The days from a date on, by the week alone.
 fn weeks(start: u32, week: &[bool; 7]) -> [bool; 400]
     requires { start < 36525 }
-    ensures { (t : ℕ) → t < 400 → slice_index_or result t false ≡ week_works week.now [] (start + t) }
+    ensures { (t : ℕ) → t < 400
+        → slice_index_or result t false ≡ week_works week.now [] (start + t) }
 {
     let mut works = [false; 400];
     for (day, mark) in works.iter_mut().enumerate() {
@@ -97,7 +98,9 @@ fn weeks(start: u32, week: &[bool; 7]) -> [bool; 400]
 
 /// Marks a holiday as a day that doesn't work, where it is one of the days from a date on.
 fn close(works: &mut [bool; 400], start: u32, holiday: u32)
-    ensures { (t : ℕ) → t < 400 → slice_index_or works.new t false ≡ (slice_index_or works.old t false && not (holiday == start + t)) }
+    ensures { (t : ℕ) → t < 400
+        → slice_index_or works.new t false
+        ≡ (slice_index_or works.old t false && not (holiday == start + t)) }
 {
     if holiday >= start && holiday - start < 400 {
         works[(holiday - start) as usize] = false;

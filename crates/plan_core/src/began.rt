@@ -26,7 +26,8 @@ unsafe impl Send for Began {}
 impl Began {
     /// These records and entries.
     pub(crate) fn with(_contents: &Contents, _journal: &Journal) -> Began
-        ensures { let began : List (Key × Record) × List Entered = (result.base, result.earlier) in began ≡ (_contents.now, _journal.now.entries) }
+        ensures { let began : List (Key × Record) × List Entered = (result.base, result.earlier) in
+            began ≡ (_contents.now, _journal.now.entries) }
     {
         Began {}
     }

@@ -40,9 +40,11 @@ impl Model for Core {
 
     ghost Value = { State };
 
-    ghost view = { λ core. state_of core.began.base core.began.earlier core.journal.entries core.memo core.tally };
+    ghost view = { λ core. state_of core.began.base core.began.earlier core.journal.entries
+        core.memo core.tally };
 
-    ghost invariant = { λ core. IsCore (state_of core.began.base core.began.earlier core.journal.entries core.memo core.tally) core.forest core.before core.carried };
+    ghost invariant = { λ core. IsCore (state_of core.began.base core.began.earlier
+        core.journal.entries core.memo core.tally) core.forest core.before core.carried };
 }
 
 impl Core {

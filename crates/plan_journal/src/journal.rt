@@ -22,7 +22,10 @@ impl Model for Journal {
 
     ghost Value = { Held };
 
-    ghost view = { λ journal. record { entries = journal.entries.items; spare = vec_capacity journal.entries - vec_len journal.entries } };
+    ghost view = { λ journal. record {
+      entries = journal.entries.items;
+      spare = vec_capacity journal.entries - vec_len journal.entries;
+    } };
 }
 
 impl Journal {

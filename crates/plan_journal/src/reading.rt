@@ -31,7 +31,11 @@ impl Model for Reading {
 
     ghost Value = { Place };
 
-    ghost view = { λ reading. record { entries = reading.journal.entries; records = reading.records; begun = reading.begun } };
+    ghost view = { λ reading. record {
+      entries = reading.journal.entries;
+      records = reading.records;
+      begun = reading.begun;
+    } };
 
     ghost invariant = { λ reading. reading.records ≤ CARRIED_LIMIT };
 }

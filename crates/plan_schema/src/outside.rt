@@ -91,7 +91,8 @@ pub trait Shelf {
 
     /// An empty sink whose bytes the name will hold. Until it is given back, the name holds what it held, or nothing.
     fn make_out(&mut self, name: &str) -> Result<Self::Out, ShelfFault>
-        ensures empty { IfOk result (λ part. IsSome (held self.old name.now) → Self.Out.taken part ≡ Some []) }
+        ensures empty { IfOk result (λ part. IsSome (held self.old name.now)
+            → Self.Out.taken part ≡ Some []) }
         ensures label { IfOk result (λ part. Self.Out.label part ≡ name.now) }
         ensures fresh { IfOk result (λ part. Self.Out.faults part ≡ 0) }
         ensures cause { OpenCause name.now (open_faults self.old) (open_faults self.new) result }
@@ -103,7 +104,8 @@ pub trait Shelf {
     /// Takes a source back, with its count of faults.
     fn give_in(&mut self, name: &str, part: Self::In)
         requires { Self.In.label part ≡ name.now }
-        ensures count { Counted name.now (Self.In.faults part) (read_faults self.old) (read_faults self.new) }
+        ensures count { Counted name.now (Self.In.faults part) (read_faults self.old)
+            (read_faults self.new) }
         ensures holds { Stays (held self.old) (held self.new) }
         ensures opens { Stays (open_faults self.old) (open_faults self.new) }
         ensures writes { Stays (write_faults self.old) (write_faults self.new) };
@@ -113,7 +115,8 @@ pub trait Shelf {
         requires { Self.Out.label part ≡ name.now }
         ensures here { held self.new name.now ≡ Self.Out.taken part }
         ensures others { StaysBut name.now (held self.old) (held self.new) }
-        ensures count { Counted name.now (Self.Out.faults part) (write_faults self.old) (write_faults self.new) }
+        ensures count { Counted name.now (Self.Out.faults part) (write_faults self.old)
+            (write_faults self.new) }
         ensures opens { Stays (open_faults self.old) (open_faults self.new) }
         ensures reads { Stays (read_faults self.old) (read_faults self.new) };
 }

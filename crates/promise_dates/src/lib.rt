@@ -12,7 +12,8 @@ use std::alloc::{AllocError, Global};
 /// to the first.
 pub fn promise(alloc: Global, outcome: &Outcome) -> Result<Quantities, AllocError>
     ensures all { IfOk result (λ promised. promised ≡ promises outcome.now.balance) }
-    ensures each { IfOk result (λ promised. (day : ℕ) → slice_index promised day ≡ promise_on outcome.now day) }
+    ensures each { IfOk result (λ promised. (day : ℕ)
+        → slice_index promised day ≡ promise_on outcome.now day) }
 {
     let mut promised = Vec::from_slice(alloc, outcome.balance.as_slice())?;
     lower(&mut promised);

@@ -36,7 +36,8 @@ pub(crate) struct Growth {
 
 /// A factor with those before it in its term.
 fn both_with(alloc: Global, before: Option<Cond>, factor: Cond) -> Result<Cond, AllocError>
-    ensures { IfOk result (λ both. cond_tree both ≡ spec.both_with (option_map cond_tree before) (cond_tree factor)) }
+    ensures { IfOk result (λ both. cond_tree both
+        ≡ spec.both_with (option_map cond_tree before) (cond_tree factor)) }
 {
     match before {
         Some(before) => Ok(Cond::And(Box::new(alloc, before)?, Box::new(alloc, factor)?)),
@@ -46,7 +47,8 @@ fn both_with(alloc: Global, before: Option<Cond>, factor: Cond) -> Result<Cond, 
 
 /// A term with those before it.
 fn either_with(alloc: Global, before: Option<Cond>, term: Cond) -> Result<Cond, AllocError>
-    ensures { IfOk result (λ either. cond_tree either ≡ spec.either_with (option_map cond_tree before) (cond_tree term)) }
+    ensures { IfOk result (λ either. cond_tree either
+        ≡ spec.either_with (option_map cond_tree before) (cond_tree term)) }
 {
     match before {
         Some(before) => Ok(Cond::Or(Box::new(alloc, before)?, Box::new(alloc, term)?)),
@@ -74,7 +76,8 @@ impl Pending {
 
     /// Adds a factor to the last term.
     fn with_factor(self, alloc: Global, factor: Cond) -> Result<Pending, AllocError>
-        ensures { IfOk result (λ pending. pending_tree pending ≡ spec.pending_with (pending_tree self) (cond_tree factor)) }
+        ensures { IfOk result (λ pending. pending_tree pending
+            ≡ spec.pending_with (pending_tree self) (cond_tree factor)) }
     {
         let Pending { either, both } = self;
         let both = both_with(alloc, both, factor)?;
@@ -86,7 +89,8 @@ impl Pending {
 
     /// The whole condition, if there is any.
     fn whole(self, alloc: Global) -> Result<Option<Cond>, AllocError>
-        ensures { IfOk result (λ whole. option_map cond_tree whole ≡ spec.whole (pending_tree self)) }
+        ensures { IfOk result (λ whole. option_map cond_tree whole
+            ≡ spec.whole (pending_tree self)) }
     {
         let Pending { either, both } = self;
         match both {
@@ -100,7 +104,8 @@ impl Pending {
 
     /// Ends the last term.
     fn behind_or(self, alloc: Global) -> Result<Pending, AllocError>
-        ensures { IfOk result (λ pending. pending_tree pending ≡ spec.behind_or (pending_tree self)) }
+        ensures { IfOk result (λ pending. pending_tree pending
+            ≡ spec.behind_or (pending_tree self)) }
     {
         Ok(Pending {
             either: self.whole(alloc)?,
@@ -111,8 +116,10 @@ impl Pending {
 
 /// Ends each `NOT` before a factor, and gives the factor with them.
 fn negated(alloc: Global, levels: &mut Vec<Level>, factor: Cond) -> Result<Cond, AllocError>
-    ensures factor { IfOk result (λ negated. cond_tree negated ≡ spec.negated (levels_of levels.old.items) (cond_tree factor)) }
-    ensures levels { OnOk result (levels_of levels.new.items ≡ spec.behind_nots (levels_of levels.old.items)) }
+    ensures factor { IfOk result (λ negated. cond_tree negated
+        ≡ spec.negated (levels_of levels.old.items) (cond_tree factor)) }
+    ensures levels { OnOk result (levels_of levels.new.items
+        ≡ spec.behind_nots (levels_of levels.old.items)) }
 {
     let mut factor = factor;
     while let Some(Level::Not) = levels.last() {
@@ -136,7 +143,8 @@ impl Growth {
 
     /// Adds a piece.
     pub(crate) fn with(self, alloc: Global, piece: &Piece) -> Result<Growth, AllocError>
-        ensures { IfOk result (λ growth. growth_tree growth ≡ spec.grow (growth_tree self) piece.now) }
+        ensures { IfOk result (λ growth. growth_tree growth
+            ≡ spec.grow (growth_tree self) piece.now) }
     {
         match piece {
             Piece::Nothing => Ok(self),
@@ -154,7 +162,8 @@ impl Growth {
     }
 
     fn with_column(self, column: Column) -> Result<Growth, AllocError>
-        ensures { IfOk result (λ growth. growth_tree growth ≡ spec.grow (growth_tree self) (piece.Column column)) }
+        ensures { IfOk result (λ growth. growth_tree growth
+            ≡ spec.grow (growth_tree self) (piece.Column column)) }
     {
         let mut columns = self.columns;
         columns.push(column)?;
@@ -166,7 +175,8 @@ impl Growth {
     }
 
     fn with_not(self) -> Result<Growth, AllocError>
-        ensures { IfOk result (λ growth. growth_tree growth ≡ spec.grow (growth_tree self) (piece.Opener opener.Not)) }
+        ensures { IfOk result (λ growth. growth_tree growth
+            ≡ spec.grow (growth_tree self) (piece.Opener opener.Not)) }
     {
         let mut levels = self.levels;
         levels.push(Level::Not)?;
@@ -178,7 +188,8 @@ impl Growth {
     }
 
     fn with_paren(self) -> Result<Growth, AllocError>
-        ensures { IfOk result (λ growth. growth_tree growth ≡ spec.grow (growth_tree self) (piece.Opener opener.Paren)) }
+        ensures { IfOk result (λ growth. growth_tree growth
+            ≡ spec.grow (growth_tree self) (piece.Opener opener.Paren)) }
     {
         let mut levels = self.levels;
         levels.push(Level::Paren(self.pending))?;
@@ -190,7 +201,9 @@ impl Growth {
     }
 
     fn with_factor(self, alloc: Global, factor: Cond) -> Result<Growth, AllocError>
-        ensures { IfOk result (λ growth. growth_tree growth ≡ spec.with_factor self.columns (pending_tree self.pending) (levels_of self.levels.items) (cond_tree factor)) }
+        ensures { IfOk result (λ growth. growth_tree growth
+            ≡ spec.with_factor self.columns (pending_tree self.pending)
+            (levels_of self.levels.items) (cond_tree factor)) }
     {
         let Growth {
             columns,
@@ -209,7 +222,8 @@ impl Growth {
 
     /// Ends a `(`.
     fn behind_close(self, alloc: Global) -> Result<Growth, AllocError>
-        ensures { IfOk result (λ growth. growth_tree growth ≡ spec.grow (growth_tree self) piece.Close) }
+        ensures { IfOk result (λ growth. growth_tree growth
+            ≡ spec.grow (growth_tree self) piece.Close) }
     {
         let Growth {
             columns,
@@ -236,7 +250,9 @@ impl Growth {
 
     /// Adds what stands inside a `(` as a factor.
     fn with_whole(self, alloc: Global, inside: Pending) -> Result<Growth, AllocError>
-        ensures { IfOk result (λ growth. growth_tree growth ≡ spec.with_whole self.columns (pending_tree self.pending) (levels_of self.levels.items) (spec.whole (pending_tree inside))) }
+        ensures { IfOk result (λ growth. growth_tree growth
+            ≡ spec.with_whole self.columns (pending_tree self.pending)
+            (levels_of self.levels.items) (spec.whole (pending_tree inside))) }
     {
         match inside.whole(alloc)? {
             Some(factor) => self.with_factor(alloc, factor),
@@ -246,7 +262,8 @@ impl Growth {
 
     /// Ends a term.
     fn behind_or(self, alloc: Global) -> Result<Growth, AllocError>
-        ensures { IfOk result (λ growth. growth_tree growth ≡ spec.grow (growth_tree self) piece.Or) }
+        ensures { IfOk result (λ growth. growth_tree growth
+            ≡ spec.grow (growth_tree self) piece.Or) }
     {
         Ok(Growth {
             columns: self.columns,

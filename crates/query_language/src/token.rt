@@ -103,7 +103,8 @@ fn behind<'a>(text: &'a [u8], count: usize) -> &'a [u8]
 /// The token that a text begins with, and how many bytes it has.
 fn first_token<'a>(text: &'a [u8]) -> Option<(Token<'a>, usize)>
     requires { prefix_len spec.is_space text.now ≡ 0 }
-    ensures value { MatchOption result (text.now ≡ []) (λ found. BeginsWithToken text.now found.0 found.1) }
+    ensures value { MatchOption result (text.now ≡ [])
+        (λ found. BeginsWithToken text.now found.0 found.1) }
 {
     match text {
         [] => None,

@@ -115,7 +115,8 @@ fn lines_over<P: Plans>(
 ) -> Result<Lines, AllocError>
     requires { are_own_cells (cells_of cells.now) ≡ true }
     ensures { IfOk result (λ lines. lines
-        ≡ map select_line (rows_over (P.plans plans.now) (query_tree query.now) (cells_of cells.now))) }
+        ≡ map select_line (rows_over (P.plans plans.now) (query_tree query.now)
+        (cells_of cells.now))) }
 {
     let mut lines = Lines::new(alloc);
     let mut text = Vec::new(alloc);

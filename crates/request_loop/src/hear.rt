@@ -74,7 +74,8 @@ pub(crate) fn hear<A: Answers, K: Sink>(
     ensures ready { A.ready answers.now state.new }
     ensures cause { WriteCauses K.faults K.label sink.old sink.new result }
     ensures heard { (kept : Option Rows) → AreGathered kept rows.old
-        → IsHeard (A.gives answers.now) (A.stops answers.now) K.taken state.old state.new user.old user.new
+        → IsHeard (A.gives answers.now) (A.stops answers.now) K.taken state.old state.new user.old
+        user.new
         kept rows.new (number, option_map (λ text. text.now) line.entry) page.old.items page.new.items sink.old sink.new result }
 {
     if is_blank_text(&line) {
@@ -118,8 +119,10 @@ fn hear_row<A: Answers, K: Sink>(
     ensures cause { WriteCauses K.faults K.label sink.old sink.new result }
     ensures heard { (r : Rows) → IsGathered r begun → length r.rows < r.count
         → requests.is_blank_line (number, option_map (λ text. text.now) line.entry) ≡ false
-        → IsHeard (A.gives answers.now) (A.stops answers.now) K.taken state.old state.new user.now user.now
-        (Some r) rows.new (number, option_map (λ text. text.now) line.entry) page.old.items page.new.items sink.old sink.new result }
+        → IsHeard (A.gives answers.now) (A.stops answers.now) K.taken state.old state.new user.now
+        user.now
+        (Some r) rows.new (number, option_map (λ text. text.now) line.entry) page.old.items
+        page.new.items sink.old sink.new result }
 {
     let mut begun = begun;
     begun.add(number, line);
@@ -153,7 +156,8 @@ fn load_handed_on<A: Answers, K: Sink>(
     ensures cause { WriteCauses K.faults K.label sink.old sink.new result }
     ensures taken { (wish : Wish) → ComesTo wish gathered
         → IsTaken (A.gives answers.now) (A.stops answers.now) K.taken state.old state.new user.now
-        (record { line = line; wish = wish }) page.old.items page.new.items sink.old sink.new result }
+        (record { line = line; wish = wish }) page.old.items page.new.items sink.old sink.new
+        result }
 {
     match gathered {
         Gathered::Faulty(bad) => Ok(Reply::Bad(bad)),
@@ -187,8 +191,10 @@ fn hear_request<A: Answers, K: Sink>(
     ensures begun { AreBegun rows.new }
     ensures ready { A.ready answers.now state.new }
     ensures cause { WriteCauses K.faults K.label sink.old sink.new result }
-    ensures heard { requests.is_blank_line (number, option_map (λ text. text.now) line.entry) ≡ false
-        → IsHeard (A.gives answers.now) (A.stops answers.now) K.taken state.old state.new user.old user.new
+    ensures heard { requests.is_blank_line (number, option_map (λ text. text.now) line.entry)
+        ≡ false
+        → IsHeard (A.gives answers.now) (A.stops answers.now) K.taken state.old state.new user.old
+        user.new
         None rows.new (number, option_map (λ text. text.now) line.entry) page.old.items page.new.items sink.old sink.new result }
 {
     match line {
@@ -218,7 +224,8 @@ fn hear_command<A: Answers, K: Sink>(
     ensures ready { A.ready answers.now state.new }
     ensures cause { WriteCauses K.faults K.label sink.old sink.new result }
     ensures heard { requests.is_blank_line (number, Some text.now) ≡ false
-        → IsHeard (A.gives answers.now) (A.stops answers.now) K.taken state.old state.new user.old user.new
+        → IsHeard (A.gives answers.now) (A.stops answers.now) K.taken state.old state.new user.old
+        user.new
         None rows.new (number, Some text.now) page.old.items page.new.items sink.old sink.new result }
 {
     let command = match read_request(text) {
@@ -290,7 +297,8 @@ fn handed_on<A: Answers, K: Sink>(
     requires sound { is_sound_command command.now ≡ true }
     ensures ready { A.ready answers.now state.new }
     ensures cause { WriteCauses K.faults K.label sink.old sink.new result }
-    ensures taken { IsTaken (A.gives answers.now) (A.stops answers.now) K.taken state.old state.new user.now
+    ensures taken { IsTaken (A.gives answers.now) (A.stops answers.now) K.taken state.old state.new
+        user.now
         (record { line = line; wish = requests.wish_of command.now })
         page.old.items page.new.items sink.old sink.new result }
 {
@@ -319,7 +327,8 @@ fn change_handed_on<A: Answers, K: Sink>(
     requires sound { is_sound_change change ≡ true }
     ensures ready { A.ready answers.now state.new }
     ensures cause { WriteCauses K.faults K.label sink.old sink.new result }
-    ensures taken { IsTaken (A.gives answers.now) (A.stops answers.now) K.taken state.old state.new user.now
+    ensures taken { IsTaken (A.gives answers.now) (A.stops answers.now) K.taken state.old state.new
+        user.now
         (to_make line change)
         page.old.items page.new.items sink.old sink.new result }
 {

@@ -150,10 +150,12 @@ fn serve_piece<A: Answers, K: Sink>(
     ensures cause { WriteCauses K.faults K.label sink.old sink.new result }
     ensures served { (old : A.State) (input rest : List ℕ) (before : Option (List ℕ))
         → SoFar (A.gives answers.now) (A.stops answers.now) old state.old input
-        (lines_after progress.old.cutter.kept (piece.now ++ rest)) progress.old.lines progress.old.requests progress.old.user
+        (lines_after progress.old.cutter.kept (piece.now ++ rest)) progress.old.lines
+        progress.old.requests progress.old.user
         progress.old.rows page.old.items before (K.taken sink.old)
         → ServedMore (A.gives answers.now) (A.stops answers.now) old state.new input
-        (lines_after progress.new.cutter.kept rest) progress.new.lines progress.new.requests progress.new.user
+        (lines_after progress.new.cutter.kept rest) progress.new.lines progress.new.requests
+        progress.new.user
         progress.new.rows page.new.items before (K.taken sink.new) result }
 {
     let mut done = 0;
@@ -186,7 +188,8 @@ fn serve_last<A: Answers, K: Sink>(
     ensures cause { WriteCauses K.faults K.label sink.old sink.new result }
     ensures served { (old : A.State) (input : List ℕ) (before : Option (List ℕ))
         → SoFar (A.gives answers.now) (A.stops answers.now) old state.old input
-        (lines_after progress.old.cutter.kept []) progress.old.lines progress.old.requests progress.old.user
+        (lines_after progress.old.cutter.kept []) progress.old.lines progress.old.requests
+        progress.old.user
         progress.old.rows page.old.items before (K.taken sink.old)
         → ServedMore (A.gives answers.now) (A.stops answers.now) old state.new input
         [] progress.new.lines progress.new.requests progress.new.user
@@ -214,7 +217,8 @@ fn serve_rest<A: Answers, K: Sink>(
     ensures cause { WriteCauses K.faults K.label sink.old sink.new result }
     ensures served { (old : A.State) (input : List ℕ) (before : Option (List ℕ))
         → SoFar (A.gives answers.now) (A.stops answers.now) old state.old input
-        (lines_after progress.old.cutter.kept []) progress.old.lines progress.old.requests progress.old.user
+        (lines_after progress.old.cutter.kept []) progress.old.lines progress.old.requests
+        progress.old.user
         progress.old.rows page.old.items before (K.taken sink.old)
         → ServedLast (A.gives answers.now) (A.stops answers.now) old state.new input
         progress.new.lines progress.new.requests progress.new.user page.new.items before (K.taken sink.new) result }
@@ -275,9 +279,11 @@ fn serve_line<A: Answers, K: Sink>(
     ensures rows { AreBegun progress.new.rows }
     ensures ready { A.ready answers.now state.new }
     ensures cause { WriteCauses K.faults K.label sink.old sink.new result }
-    ensures served { (old : A.State) (input : List ℕ) (left : List (Option (List ℕ))) (before : Option (List ℕ))
+    ensures served { (old : A.State) (input : List ℕ) (left : List (Option (List ℕ)))
+        (before : Option (List ℕ))
         → SoFar (A.gives answers.now) (A.stops answers.now) old state.old input
-        (line_of progress.old.cutter.kept ∷ left) progress.old.lines progress.old.requests progress.old.user
+        (line_of progress.old.cutter.kept ∷ left) progress.old.lines progress.old.requests
+        progress.old.user
         progress.old.rows page.old.items before (K.taken sink.old)
         → ServedMore (A.gives answers.now) (A.stops answers.now) old state.new input
         left progress.new.lines progress.new.requests progress.new.user

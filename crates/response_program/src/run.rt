@@ -31,9 +31,12 @@ const NO_MEMORY: u8 = 1;
 /// opened, read and written, and 7 where the input passed its limit.
 pub fn response<H: Shelf>(alloc: Global, words: &[String], shelf: &mut H) -> u8
     ensures run { is_run (map string_bytes words.now) ≡ true
-        → HasResponded (view H.held H.open_faults H.read_faults H.write_faults shelf.old) (view H.held H.open_faults H.read_faults H.write_faults shelf.new) (names_in (map string_bytes words.now)) result }
+        → HasResponded (view H.held H.open_faults H.read_faults H.write_faults shelf.old)
+        (view H.held H.open_faults H.read_faults H.write_faults shelf.new)
+        (names_in (map string_bytes words.now)) result }
     ensures words { is_run (map string_bytes words.now) ≡ false
-        → HasRefused (view H.held H.open_faults H.read_faults H.write_faults shelf.old) (view H.held H.open_faults H.read_faults H.write_faults shelf.new) result }
+        → HasRefused (view H.held H.open_faults H.read_faults H.write_faults shelf.old)
+        (view H.held H.open_faults H.read_faults H.write_faults shelf.new) result }
 {
     match read_words(words) {
         Some(names) => run_told(alloc, &names, shelf),

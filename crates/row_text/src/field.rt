@@ -17,7 +17,9 @@ pub fn is_word(text: &[u8], word: &[u8]) -> bool
 /// The text of a field.
 #[tactic(auto, unfolding(crate::specs::Row::text_at))]
 pub fn text_at<'a>(fields: &[&'a [u8]], field: u32) -> Result<&'a [u8], FieldFault>
-    ensures { MatchResult result (λ text. spec.text_at (texts fields.now) field ≡ Ok text.now) (λ fault. spec.text_at (texts fields.now) field ≡ Err fault) }
+    ensures { MatchResult result
+        (λ text. spec.text_at (texts fields.now) field ≡ Ok text.now)
+        (λ fault. spec.text_at (texts fields.now) field ≡ Err fault) }
 {
     match fields.get(field as usize) {
         Some(text) => Ok(*text),

@@ -12,7 +12,8 @@ use plan_schema::{FieldFault, Key, Rule};
 /// The key whose key form the fields are, the table word first, or the first faulty field.
 pub fn read_key(fields: &[&[u8]]) -> Result<Key, FieldFault>
     ensures value { result ≡ spec.key_of (texts fields.now) }
-    ensures sound { IfOk result (λ key. (is_sound_key key ≡ true) × (key_eq key keys.Plan ≡ false)) }
+    ensures sound { IfOk result (λ key. (is_sound_key key ≡ true)
+        × (key_eq key keys.Plan ≡ false)) }
 {
     key_of(fields)
 }

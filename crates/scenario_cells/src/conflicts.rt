@@ -22,7 +22,8 @@ fn same_records(one: &Record, other: &Record) -> bool
 
 /// Whether two records that may be missing are the same: a missing one is the same as a missing one alone.
 fn same_rows(one: Option<&Record>, other: Option<&Record>) -> bool
-    ensures { result ≡ same_option same_record (option_copied one.entry) (option_copied other.entry) }
+    ensures { result ≡ same_option same_record (option_copied one.entry)
+        (option_copied other.entry) }
 {
     match one {
         None => other.is_none(),
@@ -37,7 +38,8 @@ fn same_rows(one: Option<&Record>, other: Option<&Record>) -> bool
 pub fn conflict(above: &Held, child: &Held, store: &Store) -> Option<Refusal>
     requires above { IsHeld (cell_at store.now) above.now }
     requires child { IsHeld (cell_at store.now) child.now }
-    ensures { result ≡ first_of (map (conflict_at (contents_of (scenario_by (cell_at store.now) above.now)) (contents_by (cell_at store.now) child.now.base)) child.now.own) }
+    ensures { result ≡ first_of (map (conflict_at (contents_of (scenario_by (cell_at store.now)
+        above.now)) (contents_by (cell_at store.now) child.now.base)) child.now.own) }
 {
     for (key, _value) in child.own.iter() {
         let mine = row(&child.base, store, &key);

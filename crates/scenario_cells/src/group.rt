@@ -51,7 +51,17 @@ pub fn root_name() -> Option<Name>
 
 /// The root with the ids of its records.
 pub fn root_held(alloc: Global, ids: Ids, parts: usize, records: usize) -> Result<Held, AllocError>
-    ensures { IfOk result (λ held. held ≡ record { parent = None; owner = None; private = false; base = ids; ids = ids; own = []; parts = parts; records = records }) }
+    ensures { IfOk result (λ held. held
+        ≡ record {
+          parent = None;
+          owner = None;
+          private = false;
+          base = ids;
+          ids = ids;
+          own = [];
+          parts = parts;
+          records = records;
+        }) }
 {
     let base = ids.share()?;
     Ok(Held {

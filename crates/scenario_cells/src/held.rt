@@ -43,7 +43,8 @@ pub fn change_row(
 ) -> Result<(), AllocError>
     requires held { IsHeld (cell_at store.old) held.old }
     requires ready { IsReady point root held.old }
-    ensures changed { OnOk result (IsChanged point root ((key.now, value.now) ∷ []) (cell_at store.old) (cell_at store.new) held.old held.new) }
+    ensures changed { OnOk result (IsChanged point root ((key.now, value.now) ∷ [])
+        (cell_at store.old) (cell_at store.new) held.old held.new) }
     ensures err { OnErr result (held.new ≡ held.old) }
     ensures keeps { KeepsOlder point store.old store.new }
 {
@@ -74,7 +75,8 @@ pub fn changed_rows(
     requires some { 0 < length rows.now }
     requires held { IsHeld (cell_at store.old) held.now }
     requires ready { IsReady point root held.now }
-    ensures changed { IfOk result (λ new. IsChanged point root (all_put rows.now) (cell_at store.old) (cell_at store.new) held.now new) }
+    ensures changed { IfOk result (λ new. IsChanged point root (all_put rows.now)
+        (cell_at store.old) (cell_at store.new) held.now new) }
     ensures keeps { KeepsOlder point store.old store.new }
 {
     let mut loaded = begin_load(held)?;
@@ -95,7 +97,13 @@ struct Loaded {
 }
 
 fn begin_load(held: &Held) -> Result<Loaded, AllocError>
-    ensures { IfOk result (λ loaded. loaded ≡ record { ids = held.now.ids; own = held.now.own; parts = held.now.parts; records = held.now.records }) }
+    ensures { IfOk result (λ loaded. loaded
+        ≡ record {
+          ids = held.now.ids;
+          own = held.now.own;
+          parts = held.now.parts;
+          records = held.now.records;
+        }) }
 {
     let ids = held.ids.share()?;
     let own = held.own.share()?;
@@ -133,7 +141,8 @@ fn load_row(
     key: &Key,
     value: &Option<Record>,
 ) -> Result<(), AllocError>
-    ensures loaded { OnOk result (IsNextLoaded point root key.now value.now store.old loaded.old store.new loaded.new) }
+    ensures loaded { OnOk result (IsNextLoaded point root key.now value.now store.old loaded.old
+        store.new loaded.new) }
     ensures keeps { KeepsOlder point store.old store.new }
 {
     let had = row(&loaded.ids, store, key).is_some();
@@ -156,7 +165,8 @@ fn add_own(
     key: &Key,
     value: &Option<Record>,
 ) -> Result<(), AllocError>
-    ensures ok { OnOk result (own.new ≡ (if root then own.old else insert_entry key_cmp own.old key.now value.now)) }
+    ensures ok { OnOk result (own.new
+        ≡ (if root then own.old else insert_entry key_cmp own.old key.now value.now)) }
     ensures err { OnErr result (own.new ≡ own.old) }
 {
     if root {

@@ -40,7 +40,8 @@ pub fn lay_all(
     requires above { IsHeld (cell_at store.old) above.now }
     requires older { AreOlderIds point above.now.ids }
     requires own { is_sorted key_cmp child.now.own ≡ true }
-    ensures laid { IfOk result (λ laid. IsLaid point (contents_of (scenario_by (cell_at store.old) above.now)) (id_at above.now.ids) (ids_of_held child.now) child.now.own store.new laid) }
+    ensures laid { IfOk result (λ laid. IsLaid point (contents_of (scenario_by (cell_at store.old)
+        above.now)) (id_at above.now.ids) (ids_of_held child.now) child.now.own store.new laid) }
     ensures keeps { KeepsOlder point store.old store.new }
 {
     let mut laid = Laid {
@@ -65,7 +66,8 @@ fn lay_row(
     key: &Key,
     value: &Option<Record>,
 ) -> Result<(), AllocError>
-    ensures laid { OnOk result (IsNextLaid point above.now child.now key.now value.now store.old laid.old store.new laid.new) }
+    ensures laid { OnOk result (IsNextLaid point above.now child.now key.now value.now store.old
+        laid.old store.new laid.new) }
     ensures keeps { KeepsOlder point store.old store.new }
 {
     let had = row(&above.ids, store, key).is_some();
@@ -89,8 +91,11 @@ fn lay_id(
     key: &Key,
     value: &Option<Record>,
 ) -> Result<(), AllocError>
-    ensures ids { OnOk result (ids.new ≡ spec.next_ids store.old point above.now.ids child.now.base child.now.ids ids.old key.now value.now) }
-    ensures store { OnOk result (store.new ≡ spec.next_cells store.old point above.now.ids child.now.base ids.old key.now value.now) }
+    ensures ids { OnOk result (ids.new
+        ≡ spec.next_ids store.old point above.now.ids child.now.base child.now.ids ids.old key.now
+        value.now) }
+    ensures store { OnOk result (store.new
+        ≡ spec.next_cells store.old point above.now.ids child.now.base ids.old key.now value.now) }
     ensures err { OnErr result (store.new ≡ store.old) }
 {
     let cell = cell_of(key);
@@ -124,7 +129,17 @@ fn set_id(ids: &mut Ids, cell: &CellName, id: Option<&VersionId>) -> Result<(), 
 
 /// The child with the contents of its parent for its base.
 pub fn based(child: &Held, base: &Ids, laid: Laid) -> Result<Held, AllocError>
-    ensures { IfOk result (λ new. new ≡ record { parent = child.now.parent; owner = child.now.owner; private = child.now.private; base = base.now; ids = laid.ids; own = child.now.own; parts = laid.parts; records = laid.records }) }
+    ensures { IfOk result (λ new. new
+        ≡ record {
+          parent = child.now.parent;
+          owner = child.now.owner;
+          private = child.now.private;
+          base = base.now;
+          ids = laid.ids;
+          own = child.now.own;
+          parts = laid.parts;
+          records = laid.records;
+        }) }
 {
     let own = child.own.share()?;
     let base = base.share()?;
@@ -199,7 +214,8 @@ fn put_own(
     key: &Key,
     value: &Arc<Option<Record>>,
 ) -> Result<(), AllocError>
-    ensures ok { OnOk result (own.new ≡ insert_entry key_cmp own.old key.now (arc_value value.now)) }
+    ensures ok { OnOk result (own.new
+        ≡ insert_entry key_cmp own.old key.now (arc_value value.now)) }
     ensures err { OnErr result (own.new ≡ own.old) }
 {
     let value = Arc::try_clone(value)?;

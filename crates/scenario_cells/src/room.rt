@@ -31,7 +31,12 @@ pub struct Tally {
 }
 
 fn no_tally() -> Tally
-    ensures { result ≡ record { parts_before = 0; parts_after = 0; rows_before = 0; rows_after = 0 } }
+    ensures { result ≡ record {
+      parts_before = 0;
+      parts_after = 0;
+      rows_before = 0;
+      rows_after = 0;
+    } }
 {
     Tally {
         parts_before: 0,
@@ -88,7 +93,10 @@ fn exceeds(count: usize, before: usize, after: usize, limit: usize) -> bool
 fn full(held: &Held, tally: &Tally) -> Option<Refusal>
     requires parts { held.now.parts ≤ 10_000 }
     requires records { held.now.records ≤ 200_000 }
-    ensures { (parts records : ℕ) → parts + tally.now.parts_before ≡ held.now.parts + tally.now.parts_after → records + tally.now.rows_before ≡ held.now.records + tally.now.rows_after → result ≡ refused_counts parts records }
+    ensures { (parts records : ℕ)
+        → parts + tally.now.parts_before ≡ held.now.parts + tally.now.parts_after
+        → records + tally.now.rows_before ≡ held.now.records + tally.now.rows_after
+        → result ≡ refused_counts parts records }
 {
     if exceeds(
         held.parts,
@@ -113,7 +121,10 @@ fn full(held: &Held, tally: &Tally) -> Option<Refusal>
 pub fn one_room(held: &Held, store: &Store, key: &Key, has: bool) -> Option<Refusal>
     requires held { IsHeld (cell_at store.now) held.now }
     requires limits { AreWithinLimits (contents_of (scenario_by (cell_at store.now) held.now)) }
-    ensures { (value : Option Record) → has ≡ is_some value → result ≡ refused_contents (laid_over (contents_of (scenario_by (cell_at store.now) held.now)) ((key.now, value) ∷ [])) }
+    ensures { (value : Option Record)
+        → has ≡ is_some value
+        → result ≡ refused_contents (laid_over (contents_of
+        (scenario_by (cell_at store.now) held.now)) ((key.now, value) ∷ [])) }
 {
     let had = row(&held.ids, store, key).is_some();
     let tally = tallied(&no_tally(), key, had, has);
@@ -125,7 +136,8 @@ pub fn own_room(above: &Held, child: &Held, store: &Store) -> Option<Refusal>
     requires above { IsHeld (cell_at store.now) above.now }
     requires limits { AreWithinLimits (contents_of (scenario_by (cell_at store.now) above.now)) }
     requires own { is_sorted key_cmp child.now.own ≡ true }
-    ensures { result ≡ refused_contents (laid_over (contents_of (scenario_by (cell_at store.now) above.now)) child.now.own) }
+    ensures { result ≡ refused_contents (laid_over
+        (contents_of (scenario_by (cell_at store.now) above.now)) child.now.own) }
 {
     let mut tally = no_tally();
     for (key, value) in child.own.iter() {
@@ -150,7 +162,8 @@ fn is_among(rows: &[(Key, Record)], key: &Key) -> bool
 /// Whether there is a row under a key of a scenario after these rows.
 fn had_before(held: &Held, store: &Store, rows: &[(Key, Record)], key: &Key) -> bool
     requires { IsHeld (cell_at store.now) held.now }
-    ensures { result ≡ is_some (record_at (laid_over (contents_of (scenario_by (cell_at store.now) held.now)) (all_put rows.now)) key.now) }
+    ensures { result ≡ is_some (record_at (laid_over
+        (contents_of (scenario_by (cell_at store.now) held.now)) (all_put rows.now)) key.now) }
 {
     if row(&held.ids, store, key).is_some() {
         return true;
@@ -162,7 +175,8 @@ fn had_before(held: &Held, store: &Store, rows: &[(Key, Record)], key: &Key) -> 
 pub fn rows_room(held: &Held, store: &Store, rows: &[(Key, Record)]) -> Option<Refusal>
     requires held { IsHeld (cell_at store.now) held.now }
     requires limits { AreWithinLimits (contents_of (scenario_by (cell_at store.now) held.now)) }
-    ensures { result ≡ refused_contents (laid_over (contents_of (scenario_by (cell_at store.now) held.now)) (all_put rows.now)) }
+    ensures { result ≡ refused_contents (laid_over
+        (contents_of (scenario_by (cell_at store.now) held.now)) (all_put rows.now)) }
 {
     if fits(held, rows.len()) {
         return None;
@@ -183,7 +197,8 @@ fn fits(held: &Held, more: usize) -> bool
 fn counted_room(held: &Held, store: &Store, rows: &[(Key, Record)]) -> Option<Refusal>
     requires held { IsHeld (cell_at store.now) held.now }
     requires limits { AreWithinLimits (contents_of (scenario_by (cell_at store.now) held.now)) }
-    ensures { result ≡ refused_contents (laid_over (contents_of (scenario_by (cell_at store.now) held.now)) (all_put rows.now)) }
+    ensures { result ≡ refused_contents (laid_over
+        (contents_of (scenario_by (cell_at store.now) held.now)) (all_put rows.now)) }
 {
     let mut tally = no_tally();
     for i in 0..rows.len() {

@@ -15,7 +15,8 @@ use std::alloc::{AllocError, Global};
 
 /// The record under a key, by the cell that it is in.
 pub fn row<'a>(ids: &Ids, store: &'a Store, key: &Key) -> Option<&'a Record>
-    ensures { option_copied result ≡ record_at (rows_in (cell_at store.now) ids.now (key_spec.cell_of key.now)) key.now }
+    ensures { option_copied result
+        ≡ record_at (rows_in (cell_at store.now) ids.now (key_spec.cell_of key.now)) key.now }
 {
     match ids.get(&cell_of(key)) {
         Some(id) => match store.get(id) {
@@ -75,8 +76,12 @@ pub(crate) fn put_row(
     key: &Key,
     value: &Option<Record>,
 ) -> Result<Ids, AllocError>
-    ensures ids { IfOk result (λ new. new ≡ renewed_ids ids.now (new_id point key.now) (new_rows store.old ids.now key.now value.now)) }
-    ensures store { OnOk result (store.new ≡ store_with store.old (new_id point key.now) (new_rows store.old ids.now key.now value.now)) }
+    ensures ids { IfOk result (λ new. new
+        ≡ renewed_ids ids.now (new_id point key.now)
+        (new_rows store.old ids.now key.now value.now)) }
+    ensures store { OnOk result (store.new
+        ≡ store_with store.old (new_id point key.now)
+        (new_rows store.old ids.now key.now value.now)) }
     ensures err { OnErr result (store.new ≡ store.old) }
 {
     let cell = changed_cell(alloc, ids, store, key, value)?;
@@ -110,8 +115,12 @@ pub(crate) fn put_row_in(
     key: &Key,
     value: &Option<Record>,
 ) -> Result<(), AllocError>
-    ensures ids { OnOk result (ids.new ≡ renewed_ids ids.old (new_id point key.now) (new_rows store.old ids.old key.now value.now)) }
-    ensures store { OnOk result (store.new ≡ store_with store.old (new_id point key.now) (new_rows store.old ids.old key.now value.now)) }
+    ensures ids { OnOk result (ids.new
+        ≡ renewed_ids ids.old (new_id point key.now)
+        (new_rows store.old ids.old key.now value.now)) }
+    ensures store { OnOk result (store.new
+        ≡ store_with store.old (new_id point key.now)
+        (new_rows store.old ids.old key.now value.now)) }
     ensures err { OnErr result (store.new ≡ store.old) }
 {
     let cell = changed_cell(alloc, ids, store, key, value)?;

@@ -70,7 +70,8 @@ pub fn reply_to_question<B: PlanBook>(
     command: &Command<'_>,
 ) -> Reply
     ensures { IsAlone (B.basis book.now).base (history (B.basis book.now) (B.story book.now))
-        → IsAnswered (B.basis book.now).base (history (B.basis book.now) (B.story book.now)) user.now command.now result }
+        → IsAnswered (B.basis book.now).base (history (B.basis book.now) (B.story book.now))
+        user.now command.now result }
 {
     match command {
         Command::Hello(_) | Command::Point | Command::Quit => Reply::Ok(book.point()),

@@ -29,7 +29,8 @@ pub fn plan_answer<B: PlanBook>(
     part: &Name,
 ) -> Reply
     ensures { IsAlone (B.basis book.now).base (history (B.basis book.now) (B.story book.now))
-        → IsAnswered (B.basis book.now).base (history (B.basis book.now) (B.story book.now)) user.now (commands.Plan scenario.now part.now) result }
+        → IsAnswered (B.basis book.now).base (history (B.basis book.now) (B.story book.now))
+        user.now (commands.Plan scenario.now part.now) result }
 {
     match book.read(user, scenario) {
         Ok((point, contents)) => plan_reply(alloc, contents, point, part),

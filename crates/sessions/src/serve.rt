@@ -29,8 +29,13 @@ pub fn serve_alone<B: PlanBook, S: Source, K: Sink>(
         result }
     ensures book { BookEnding B.faults B.basis book.old book.new result }
     ensures worn { result ≢ ends.Worn }
-    ensures served { IsAlone (B.basis book.old).base (history (B.basis book.old) (B.story book.old)) → (input : List ℕ) → S.left source.old ≡ Some input
-        → Serves (setting may_change session (B.basis book.old) (B.story book.old)) (history (B.basis book.new) (B.story book.new)) input (K.taken sink.old) (K.taken sink.new) result }
+    ensures served { IsAlone (B.basis book.old).base
+        (history (B.basis book.old) (B.story book.old))
+        → (input : List ℕ)
+        → S.left source.old ≡ Some input
+        → Serves (setting may_change session (B.basis book.old) (B.story book.old))
+        (history (B.basis book.new) (B.story book.new)) input (K.taken sink.old)
+        (K.taken sink.new) result }
 {
     let terms = Terms {
         session,

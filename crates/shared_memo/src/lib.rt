@@ -78,8 +78,10 @@ impl<K: Eq + Hash + Drop, V: Drop> Memo<K, V> {
 
     /// The value of a key that is there, whose pair goes to the front. No memory is taken.
     pub fn get(&mut self, key: &K) -> Option<&Arc<V>>
-        ensures* front { sem 𝓛 (ends_as K.row V.row K.Hash self.entry (in_front (K.eq key.now) self.old.pairs)) }
-        ensures value { option_map (λ a. arc_value a.now) result ≡ lookup (K.eq key.now) self.old.pairs }
+        ensures* front { sem 𝓛 (ends_as K.row V.row K.Hash self.entry
+            (in_front (K.eq key.now) self.old.pairs)) }
+        ensures value { option_map (λ a. arc_value a.now) result
+            ≡ lookup (K.eq key.now) self.old.pairs }
     {
         self.cache.get(key)
     }
@@ -91,7 +93,8 @@ impl<K: Eq + Hash + Drop, V: Drop> Memo<K, V> {
     ///
     /// The pair is handed back where memory runs out, which is at a new key alone.
     pub fn put(&mut self, key: K, value: Arc<V>) -> Result<(), (K, Arc<V>)>
-        ensures ok { OnOk result (self.new ≡ memo (with_pair K.eq self.old key (arc_value value)) self.old.most) }
+        ensures ok { OnOk result (self.new
+            ≡ memo (with_pair K.eq self.old key (arc_value value)) self.old.most) }
         ensures err { OnErr result (self.new ≡ self.old) }
         ensures back { IfErr result (λ pair. pair ≡ (key, value)) }
         ensures present { IsSome (lookup (K.eq key) self.old.pairs) → IsOk result }
@@ -129,7 +132,8 @@ impl<K: Eq + Hash + Drop, V: Drop> Memo<K, V> {
     where
         K: Twin,
         requires { F.IsAlwaysCallable keep.now }
-        ensures { IfOk result (λ keys. Refuses (FnReturnsAt F.Fn keep.now) self.now.pairs keys.items) }
+        ensures { IfOk result (λ keys. Refuses (FnReturnsAt F.Fn keep.now) self.now.pairs
+            keys.items) }
     {
         let mut refused = Vec::new(self.alloc);
         for (key, _) in self.cache.iter() {

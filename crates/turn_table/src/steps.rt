@@ -94,7 +94,8 @@ pub(crate) fn take_value<T: Storied>(table: &TurnWords<T>, seat: &mut TurnSeat<T
     requires may { MayTake seat.old.me.0 }
     requires empty { seat.old.me.1 ≡ [] }
     ensures table { seat.new.table_id ≡ seat.old.table_id }
-    ensures seat { seat.new.me ≡ (with_value (T.story result.0) (T.faults result.0) seat.old.me.0, (0, None) ∷ []) }
+    ensures seat { seat.new.me
+        ≡ (with_value (T.story result.0) (T.faults result.0) seat.old.me.0, (0, None) ∷ []) }
     ensures story { IsStoryFor seat.old.me.0 (T.story result.0) }
     ensures faults { AreFaultsFor seat.old.me.0 (T.faults result.0) }
     ensures basis { seat.old.me.0.holding.basis ≡ Some (T.basis result.0) }
@@ -127,7 +128,12 @@ pub(crate) fn put_value<T: Storied>(
     requires basis { seat.old.me.0.holding.basis ≡ Some (T.basis value) }
     requires short { length (T.story value) < 2 ^ 64 }
     ensures table { seat.new.table_id ≡ seat.old.table_id }
-    ensures seat { seat.new.me ≡ (without_value (T.story value) (with_mark (cond failed 1 0) (T.faults value) seat.old.me.0), []) }
+    ensures seat { seat.new.me
+        ≡ (
+          without_value (T.story value) (with_mark (cond failed 1 0) (T.faults value)
+              seat.old.me.0),
+          [],
+        ) }
 {
     let before = table.exchange(seat, 0, Some(value));
     let None = before else { unreachable!() };
@@ -159,7 +165,8 @@ pub(crate) fn split_off<T: Storied>(
     requires first { seat.old.me.0.numbers.number ≡ Some 0 }
     requires bare { seat.old.me.0.numbers.spare ≡ None }
     requires few { seat.old.me.0.numbers.splits < most }
-    ensures table { (seat.new.table_id ≡ seat.old.table_id) × (result.1.table_id ≡ seat.old.table_id) }
+    ensures table { (seat.new.table_id ≡ seat.old.table_id)
+        × (result.1.table_id ≡ seat.old.table_id) }
     ensures number { result.0 ≡ seat.old.me.0.numbers.splits + 1 }
     ensures unused { entries_of result.0 seat.old.me.0.reading.seen ≡ [] }
     ensures seat { seat.new.me ≡ (left_seat (with_spare result.0 seat.old.me.0), seat.old.me.1) }
@@ -176,7 +183,8 @@ pub(crate) fn copy_off<T: Storied>(table: &TurnWords<T>, seat: &mut TurnSeat<T>)
     requires words { table.now.table_id.words ≡ 5 }
     requires numbered { is_numbered seat.old.me.0 ≡ true }
     requires bare { seat.old.me.0.numbers.spare ≡ None }
-    ensures table { (seat.new.table_id ≡ seat.old.table_id) × (result.table_id ≡ seat.old.table_id) }
+    ensures table { (seat.new.table_id ≡ seat.old.table_id)
+        × (result.table_id ≡ seat.old.table_id) }
     ensures seat { seat.new.me ≡ seat.old.me }
     ensures other { result.me ≡ (right_seat seat.old.me.0, []) }
 {
@@ -185,7 +193,8 @@ pub(crate) fn copy_off<T: Storied>(table: &TurnWords<T>, seat: &mut TurnSeat<T>)
 
 // Joins another seat into this one.
 pub(crate) fn join_in<T: Storied>(table: &TurnWords<T>, seat: &mut TurnSeat<T>, other: TurnSeat<T>)
-    requires table { (seat.old.table_id ≡ table.now.table_id) × (other.table_id ≡ table.now.table_id) }
+    requires table { (seat.old.table_id ≡ table.now.table_id)
+        × (other.table_id ≡ table.now.table_id) }
     requires words { table.now.table_id.words ≡ 5 }
     requires numbered { is_numbered seat.old.me.0 ≡ true }
     requires bare { (seat.old.me.0.numbers.spare ≡ None) × (other.me.0.numbers.spare ≡ None) }
@@ -193,7 +202,8 @@ pub(crate) fn join_in<T: Storied>(table: &TurnWords<T>, seat: &mut TurnSeat<T>, 
     requires empty { other.me.1 ≡ [] }
     ensures table { seat.new.table_id ≡ seat.old.table_id }
     ensures seat { seat.new.me ≡ (merged seat.old.me.0 other.me.0, seat.old.me.1) }
-    ensures seen { Begins seat.old.me.0.reading.seen seat.new.me.0.reading.seen × Begins other.me.0.reading.seen seat.new.me.0.reading.seen }
+    ensures seen { Begins seat.old.me.0.reading.seen seat.new.me.0.reading.seen
+        × Begins other.me.0.reading.seen seat.new.me.0.reading.seen }
     ensures right { IsRight seat.new.me.0 }
 {
     table.join_seat::<Seats>(seat, other);

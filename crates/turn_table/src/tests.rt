@@ -44,7 +44,8 @@ impl Notes {
     }
 
     fn add(&mut self, maker: u64, entry: u64) -> Result<(), AllocError>
-        ensures ok { OnOk result (self.new.entries.items ≡ self.old.entries.items ++ (maker, entry) ∷ []) }
+        ensures ok { OnOk result (self.new.entries.items
+            ≡ self.old.entries.items ++ (maker, entry) ∷ []) }
         ensures err { OnErr result (self.new.entries.items ≡ self.old.entries.items) }
         ensures faults { self.new.faults ≡ self.old.faults }
     {

@@ -46,7 +46,8 @@ impl<T: Storied> Turn<T> {
     pub fn begin(alloc: Global, value: T, first: u64) -> Result<(Turn<T>, Pass<T>), TurnFault<T>>
         requires blank { T.story value ≡ [] }
         requires low { first ≤ 2 ^ 62 }
-        ensures pass { IfOk result (λ p. p.1 ≡ first_pass p.0 first (T.faults value) (T.basis value)) }
+        ensures pass { IfOk result (λ p. p.1
+            ≡ first_pass p.0 first (T.faults value) (T.basis value)) }
         ensures back { IfErr result (λ f. f.value ≡ value) }
     {
         let made = Table::vacant(alloc, &[1, first, first, 0, 0], 1, &first);
@@ -135,12 +136,19 @@ impl<T: Storied> Turn<T> {
         requires free { IsFree self.now pass.old }
         ensures draws { DrawsOne pass.old pass.new }
         ensures had { HadTickets pass.old }
-        ensures ok { IfOk result (λ h. pass.new ≡ record pass.old { draws = pass.new.draws; ticket = pass.new.ticket; seen = T.story h.value; held = Some (T.faults h.value) }) }
+        ensures ok { IfOk result (λ h. pass.new
+            ≡ record pass.old {
+              draws = pass.new.draws;
+              ticket = pass.new.ticket;
+              seen = T.story h.value;
+              held = Some (T.faults h.value);
+            }) }
         ensures served { OnOk result (is_worn pass.new ≡ false) }
         ensures story { IfOk result (λ h. IsStoryOf pass.old (T.story h.value)) }
         ensures faults { IfOk result (λ h. AreFaultsOf pass.old (T.faults h.value)) }
         ensures basis { IfOk result (λ h. pass.old.basis ≡ Some (T.basis h.value)) }
-        ensures err { OnErr result (pass.new ≡ record pass.old { draws = pass.new.draws; ticket = pass.new.ticket }) }
+        ensures err { OnErr result (pass.new
+            ≡ record pass.old { draws = pass.new.draws; ticket = pass.new.ticket }) }
         ensures worn { IfErr result (λ w. (pass.new.ticket ≡ Some w.ticket) × (2 ^ 62 ≤ w.ticket)) }
         ensures own { HasOwn pass.new }
     {

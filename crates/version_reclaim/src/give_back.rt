@@ -20,7 +20,8 @@ pub fn reclaim<K: Eq + Hash + Twin + Drop, V: Drop, F: Fn(&K, &IdSet) -> bool>(
 ) -> Result<(), AllocError>
     requires { F.IsAlwaysCallable keep }
     ensures same { IsAsBefore forest.old forest.new }
-    ensures reclaimed { OnOk result (IsReclaimed (Answers F.Fn keep) forest.old forest.new memo.old.pairs memo.new.pairs) }
+    ensures reclaimed { OnOk result (IsReclaimed (Answers F.Fn keep) forest.old forest.new
+        memo.old.pairs memo.new.pairs) }
     ensures most { memo.new.most ≡ memo.old.most }
     ensures forest { OnErr result (forest.new ≡ forest.old) }
     ensures memo { OnErr result (memo.new ≡ memo.old) }

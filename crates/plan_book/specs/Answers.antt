@@ -1,19 +1,18 @@
 -- What the calls of a book come to.
-use Rattle.std.specs.Prelude.{◌≡◌, ◌⊎◌, ℕ, ◌≤◌, Bool, true, false, [], ◌∷◌, ◌++◌, Option, Some, None, Result, Ok, Err}
+use Rattle.std.specs.Prelude.{◌≡◌, ◌⊎◌, ◌×◌, ℕ, ◌≤◌, true, List, [], ◌∷◌, ◌++◌, Option, Some, None, Result, Ok, Err}
 use Rattle.plan_schema.specs.declared.name.Name.{Name}
 use Rattle.plan_schema.specs.declared.change.Entry.{Entry}
 use Rattle.plan_schema.specs.declared.refusal.Refusal.{Refusal}
-use Rattle.plan_schema.specs.declared.refusal.Refusal.TheVariants as refusals
-use Rattle.plan_schema.specs.declared.refusal.Room.TheVariants as rooms
-use Rattle.plan_schema.specs.Base.{is_base}
-use Rattle.plan_schema.specs.Contents.{Contents}
 use Rattle.plan_schema.specs.Outside.{Rose}
-use Rattle.scenario_rules.specs.World.{contents_in}
 use Rattle.scenario_rules.specs.Refused.{access_refusal, refused}
 use Rattle.plan_book.specs.declared.fault.BookFault.{BookFault}
 use Rattle.plan_book.specs.declared.fault.BookFault.TheVariants.{Refused, Memory, Failed}
 use Rattle.plan_book.specs.declared.ground.Ground.{Ground}
-use Rattle.plan_book.specs.History.{Story, history, world_of, point_of}
+use Rattle.session_rules.specs.Answers.{trees}
+use Rattle.plan_core.specs.State as states
+use Rattle.plan_core.specs.Changes.{yields_to_memory, is_reclaim_due, IsTidied}
+use Rattle.plan_core.specs.Asks.{IsBarred}
+use Rattle.plan_book.specs.Books.{Story, history, point_of}
 
 -- the refusal of an entry's change after a story, if there is one
 abbrev pub refusal_of : Ground → Story → Entry → Option Refusal
@@ -34,15 +33,6 @@ pub record IsRefused (began : Ground) (before after : Story) (entry : Entry) (po
   pub first : refusal_of began before entry ≡ Some refusal
   pub same : after ≡ before
   pub point_is : point ≡ point_of began before
-
--- a refusal for which want of memory may stand, as for none: one for want of room in the contents or the journal. All others are found
--- without memory
-abbrev pub yields_to_memory : Option Refusal → Bool
-yields_to_memory None = true
-yields_to_memory (Some (refusals.Full rooms.Parts)) = true
-yields_to_memory (Some (refusals.Full rooms.Records)) = true
-yields_to_memory (Some (refusals.Full rooms.Journal)) = true
-yields_to_memory (Some refusal) = false
 
 -- a change that failed: no refusal but one for want of room applies, and the story is as before; or none applies, and its entry may
 -- stand in the story
@@ -70,19 +60,20 @@ pub record HasChanged {B : Type 0} (story : B → Story) (faults : B → ℕ) (b
   pub later : faults old ≤ faults new
   pub answer : IsChangeAnswer (basis old) (story old) (story new) (faults old) (faults new) entry result
 
--- records that were read: those of the scenario after all entries, at the number of entries; and they are fit to be planned
-pub record IsRead (began : Ground) (story : Story) (user scenario : Name) (point : ℕ) (contents : Contents) : Type 0 where
-  pub allowed : access_refusal (world_of began story) user scenario ≡ None
-  pub point_is : point ≡ point_of began story
-  pub contents_are : contents ≡ contents_in (world_of began story) scenario
-  pub fit : is_base contents ≡ true
+-- the memo and the numbers after a change: where it was accepted those of a core that entered it, where it was refused or found no memory
+-- those from before
+abbrev pub HasWorked : states.State → states.State → Result ℕ BookFault → Type 0
+HasWorked old new (Ok number) =
+    let entered = record old { entries = new.entries } in IsTidied (is_reclaim_due (states.point_of entered)) entered new
+HasWorked old new (Err Failed) = Unit {0}
+HasWorked old new (Err fault) = new ≡ old
 
--- access to the scenario is refused, at the number of entries
-pub record IsBarred (began : Ground) (story : Story) (user scenario : Name) (point : ℕ) (refusal : Refusal) : Type 0 where
-  pub first : access_refusal (world_of began story) user scenario ≡ Some refusal
-  pub point_is : point ≡ point_of began story
+-- why a question has no job: the user may not use the scenario, or there was no memory for it where he may
+abbrev pub IsAskFault : states.State → Name → Name → BookFault → Type 0
+IsAskFault book user scenario (Refused point refusal) = IsBarred book user scenario point refusal
+IsAskFault book user scenario Memory = access_refusal (states.world_of book) user scenario ≡ None
+IsAskFault book user scenario Failed = ⊥
 
--- why records can't be read: there is no other cause
-abbrev pub IsReadFault : Ground → Story → Name → Name → BookFault → Type 0
-IsReadFault began story user scenario (Refused point refusal) = IsBarred began story user scenario point refusal
-IsReadFault began story user scenario fault = ⊥
+-- the scenarios that the user may use, at the number of entries
+abbrev pub IsTree : states.State → Name → ℕ × List (List ℕ) → Type 0
+IsTree book user tree = (tree.0 ≡ states.point_of book) × (tree.1 ≡ trees (states.world_of book) user)

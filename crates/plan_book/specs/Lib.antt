@@ -1,6 +1,5 @@
-pub mod History
+pub mod Books
 pub mod Answers
-pub mod Kept
 pub use Rattle.plan_schema.specs.Outside
 pub use Rattle.scenario_rules.specs.Refused
 pub use Rattle.scenario_rules.specs.Journal

@@ -10,7 +10,7 @@ use Rattle.scenario_merge.specs.Grown.{Grown, ids_in}
 use Rattle.planning_rules.specs.Plan.{Known}
 use Rattle.shared_memo.specs.Pairs.{Memo, memo}
 use Rattle.walk_rules.specs.declared.key.MemoKey.{MemoKey}
-use Rattle.plan_core.specs.declared.tally.Tally.{Tally}
+use Rattle.plan_walk.specs.declared.round.Tally.{Tally}
 use Rattle.plan_core.specs.State.{state_of}
 use Rattle.plan_core.specs.Holds.{IsCore}
 

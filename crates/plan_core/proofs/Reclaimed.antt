@@ -11,7 +11,7 @@ use Rattle.plan_schema.specs.Contents.{Contents}
 use Rattle.plan_schema.specs.declared.change.Entry.{Entry}
 use Rattle.planning_rules.specs.Plan.{Known}
 use Rattle.version_rules.specs.Meaning.{meaning_after}
-use Rattle.plan_core.specs.declared.tally.Tally.{Tally}
+use Rattle.plan_walk.specs.declared.round.Tally.{Tally}
 use Rattle.plan_core.specs.State.{State, state_of, ids_of}
 use Rattle.plan_core.specs.Holds.{IsCore}
 use Rattle.shared_memo.specs.Pairs.{Memo, Keeps, at_end, stays, goes}

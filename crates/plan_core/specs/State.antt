@@ -1,5 +1,5 @@
 -- What contracts see of a core: what it began with, the changes that it entered since, its memo, and its tally.
-use Rattle.std.specs.Prelude.{ℕ, List, ◌++◌, [], ◌∷◌, length}
+use Rattle.std.specs.Prelude.{ℕ, ◌+◌, ◌-◌, ◌^◌, nat_lt, if◌then◌else◌, List, ◌++◌, [], ◌∷◌, length}
 use Rattle.plan_schema.specs.declared.change.Entry.{Entry}
 use Rattle.plan_schema.specs.Contents.{Contents}
 use Rattle.scenario_rules.specs.World.{World}
@@ -10,7 +10,7 @@ use Rattle.planning_rules.specs.Plan.{Known}
 use Rattle.shared_memo.specs.Pairs.{Memo}
 use Rattle.walk_rules.specs.declared.key.MemoKey.{MemoKey}
 use Rattle.walk_rules.specs.Memo.{Pairs}
-use Rattle.plan_core.specs.declared.tally.Tally.{Tally}
+use Rattle.plan_walk.specs.declared.round.Tally.{Tally}
 
 -- the root's records before the first change, the entries that the core began with, those that it made, the pairs of its memo with the
 -- most recently used first, how many there may be, and the tally
@@ -54,3 +54,14 @@ begin_state base most = record { base = base; earlier = []; entries = []; pairs 
 -- the same with one more entry
 abbrev pub with_entry : State → Entry → State
 with_entry core entry = record core { entries = core.entries ++ entry ∷ [] }
+
+-- numbers of work with more of it: each stops at the greatest number of 64 bits
+abbrev pub stopped_sum : ℕ → ℕ → ℕ
+stopped_sum a b = if nat_lt (a + b) (2 ^ 64) then a + b else 2 ^ 64 - 1
+
+abbrev pub added : Tally → Tally → Tally
+added a b = record {
+  netted = stopped_sum a.netted b.netted;
+  reused = stopped_sum a.reused b.reused;
+  dropped = stopped_sum a.dropped b.dropped;
+}

@@ -9,9 +9,9 @@ ghost use Rattle.plan_core.specs.Reclaims.{IsReclaimed};
 
 use crate::began::Began;
 use crate::keys::stands_on;
-use crate::tally::Tally;
 use plan_journal::Journal;
 use plan_schema::{Contents, Known};
+use plan_walk::Tally;
 use scenario_merge::Forest;
 use shared_memo::Memo;
 use std::alloc::{AllocError, Global};

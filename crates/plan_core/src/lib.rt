@@ -4,7 +4,5 @@
 mod began;
 mod kept;
 mod keys;
-mod tally;
 
 pub use kept::Core;
-pub use tally::Tally;

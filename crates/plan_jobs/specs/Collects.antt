@@ -10,7 +10,8 @@ use Rattle.plan_schema.specs.Contents.{Contents}
 use Rattle.plan_schema.specs.Sound.{are_sound_rows}
 use Rattle.planning_rules.specs.Refused.{in_reach}
 use Rattle.record_versions.specs.declared.version.VersionId.{VersionId}
-use Rattle.record_versions.specs.Versions.{IdList, CellList, id_at, cell_at}
+use Rattle.record_versions.specs.Versions.{IdList, CellList, id_at, are_ordered_ids, cell_at}
+use Rattle.version_rules.specs.Meaning.{AreMeant}
 use Rattle.walk_rules.specs.Cells.{Cells, records, are_own_cells}
 use Rattle.walk_rules.specs.Steps.{calendar_in}
 use Rattle.plan_jobs.specs.declared.job.Wanted.{Wanted}
@@ -81,3 +82,12 @@ collected store ids wanted = filter (λ cell. is_wanted (records_by store ids) w
 
 abbrev pub CollectedFrom : CellList → IdList → Wanted → Cells → Type 0
 CollectedFrom store ids wanted cells = cells ≡ collected store ids wanted
+
+-- cells that were collected for a question from contents: from some store, by ids under which it has the cells of the contents
+pub record IsCollected (c : Contents) (wanted : Wanted) (cells : Cells) : Type 0 where
+  pub store : CellList
+  pub ids : IdList
+  pub whole : AreWholeCells store ids
+  pub ordered : are_ordered_ids ids ≡ true
+  pub meant : AreMeant (cell_at store) c (id_at ids)
+  pub from : CollectedFrom store ids wanted cells

@@ -1,12 +1,12 @@
 -- The book of a run, which begins without entries.
 use Rattle.std.proofs.Common.{◌≡◌, ℕ, List, [], Option, true, refl, sym, ap, subst}
 use Rattle.byte_lines.specs.declared.rounds.Served.{Served}
-use Rattle.plan_book.specs.declared.ground.Ground.{Ground}
-use Rattle.plan_book.specs.History.{history, story_of}
-use Rattle.plan_book.specs.Kept.{Kept}
-use Rattle.plan_book.proofs.Histories.{entries_back}
-use Rattle.sessions.specs.Plans.{has_no_bills}
-use Rattle.sessions.specs.Serving.{IsAlone, Serves, setting}
+use Rattle.root_book.specs.declared.ground.Ground.{Ground}
+use Rattle.root_book.specs.History.{history, story_of}
+use Rattle.root_book.specs.Kept.{Kept}
+use Rattle.root_book.proofs.Histories.{entries_back}
+use Rattle.root_sessions.specs.Plans.{has_no_bills}
+use Rattle.root_sessions.specs.Serving.{IsAlone, Serves, setting}
 use Rattle.response_program.specs.Runs.{only_session}
 
 -- what a book in memory goes on from

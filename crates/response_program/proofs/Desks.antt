@@ -5,7 +5,7 @@ use Rattle.plan_schema.specs.declared.change.Entry.{Entry}
 use Rattle.plan_schema.specs.Contents.{Contents}
 use Rattle.plan_schema.specs.Outside.{Rose, Counted, Stays, IsKeptOrEmpty}
 use Rattle.byte_lines.specs.declared.rounds.Served.{Served}
-use Rattle.sessions.specs.Serving.{Serves}
+use Rattle.root_sessions.specs.Serving.{Serves}
 use Rattle.response_program.specs.Views.{View, NoneFell}
 use Rattle.response_program.specs.Runs.{Names, only_session, HasServed, HasRunInput}
 use Rattle.response_program.proofs.Chains.{counted_rose}

@@ -19,7 +19,7 @@ use Rattle.session_rules.specs.Sessions.{AreReplies, point_after}
 use Rattle.session_rules.specs.Runs.{Desk, IsDesk, entries_of, accepted_entry, accepted_entries, accepted_points}
 use Rattle.session_rules.proofs.SessionLaws.{are_within}
 use Rattle.plan_import.specs.BaseFile.{base_of}
-use Rattle.sessions.specs.Serving.{IsServed, IsServedShort}
+use Rattle.root_sessions.specs.Serving.{IsServed, IsServedShort}
 use Rattle.response_program.specs.Views.{View}
 use Rattle.response_program.specs.Runs.{Names, Tells, IsDone, IsShort, only_session}
 

@@ -10,9 +10,9 @@ use Rattle.byte_lines.specs.declared.rounds.Served.{Served}
 use Rattle.byte_lines.specs.declared.rounds.Served.TheVariants as ends
 use Rattle.plan_import.specs.declared.ImportFault.{ImportFault}
 use Rattle.plan_import.specs.declared.ImportFault.TheVariants as imports
-use Rattle.sessions.specs.Plans.{has_no_bills}
+use Rattle.root_sessions.specs.Plans.{has_no_bills}
 use Rattle.request_loop.specs.Serving.{is_past_limit}
-use Rattle.sessions.specs.Serving.{IsServed, IsServedShort}
+use Rattle.root_sessions.specs.Serving.{IsServed, IsServedShort}
 use Rattle.response_program.specs.Views.{View}
 use Rattle.response_program.specs.Outcomes.{Outcome, Done, NoMemory, Refused, NotOpened, NotRead, NotWritten, TooLong, HasCause, of_import, of_served, and_written}
 use Rattle.response_program.specs.Runs.{Names, only_session, HasRunInput, IsOpening, IsOfBase, IsCut}

@@ -12,8 +12,8 @@ use Rattle.row_text.specs.Row.{◌>>=◌}
 use Rattle.row_text.specs.Open.{open_row_of}
 use Rattle.plan_import.specs.declared.ImportFault.{ImportFault}
 use Rattle.plan_import.specs.BaseFile.{base_records, numbered, with_new, with_numbered, with_records, within_limits, base_of_records, base_of}
-use Rattle.sessions.specs.Plans.{has_no_bills}
-use Rattle.sessions.proofs.NoBills.{NoBill, row_key, open_none, with_one}
+use Rattle.root_sessions.specs.Plans.{has_no_bills}
+use Rattle.root_sessions.proofs.NoBills.{NoBill, row_key, open_none, with_one}
 
 Plain : Result Contents ImportFault → Type 0
 Plain read = IfOk read (λ c. has_no_bills c ≡ true)

@@ -7,9 +7,9 @@ use Rattle.byte_lines.specs.declared.rounds.Served.TheVariants as ends
 use Rattle.plan_import.specs.declared.ImportFault.{ImportFault}
 use Rattle.plan_import.specs.BaseFile.{base_of}
 use Rattle.session_rules.specs.Runs.{Desk, IsRun}
-use Rattle.sessions.specs.Plans.{has_no_bills}
+use Rattle.root_sessions.specs.Plans.{has_no_bills}
 use Rattle.request_loop.specs.Serving.{is_past_limit}
-use Rattle.sessions.specs.Serving.{Setting, Serves, IsServed, IsServedShort}
+use Rattle.root_sessions.specs.Serving.{Setting, Serves, IsServed, IsServedShort}
 use Rattle.plan_journal.specs.Entries.{journal_text}
 use Rattle.scenario_rules.specs.Journal.{IsLegal}
 use Rattle.plan_schema.specs.declared.change.Entry.{Entry}

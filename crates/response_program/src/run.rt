@@ -10,11 +10,11 @@ ghost use Rattle.response_program.specs.Responses.{HasResponded, HasRefused, nam
 use crate::ending::Ending;
 use crate::words::{RunWords, read_words};
 use byte_lines::{Served, Shelf, ShelfFault, SinkFault, write_all};
-use plan_book::Book;
 use plan_import::import;
 use plan_journal::write_journal;
 use plan_schema::Contents;
-use sessions::serve_alone;
+use root_book::Book;
+use root_sessions::serve_alone;
 use std::alloc::Global;
 
 /// The name of the console.

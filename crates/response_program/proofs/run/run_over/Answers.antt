@@ -4,7 +4,7 @@ use Rattle.std.specs.Prelude.{IsSome, OnOk}
 use Rattle.plan_schema.specs.Outside.{extended}
 use Rattle.plan_journal.specs.Entries.{journal_text}
 use Rattle.scenario_rules.specs.Journal.{IsLegal}
-use Rattle.sessions.specs.Serving.{IsServed, IsServedShort}
+use Rattle.root_sessions.specs.Serving.{IsServed, IsServedShort}
 use Rattle.response_program.specs.Views.{view}
 use Rattle.response_program.specs.Outcomes.{outcome_of, and_written, of_served}
 use Rattle.response_program.specs.Runs.{names_of, only_session, HasRunOver}

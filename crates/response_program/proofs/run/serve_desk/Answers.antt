@@ -1,7 +1,7 @@
 use Rattle.std.proofs.Common.{◌∙◌, [], Some, sym, subst}
 use Rattle.response_program.specs.Views.{view}
 use Rattle.response_program.specs.Runs.{names_of, only_session}
-use Rattle.sessions.specs.Serving.{Serves}
+use Rattle.root_sessions.specs.Serving.{Serves}
 use Rattle.response_program.proofs.Chains.{opened, gave_out, both_fell, counted_rose, rose_past}
 use Rattle.response_program.proofs.Books.{alone_at_first, book_serves, book_kept}
 use Rattle.response_program.proofs.run.serve_desk.Goals as goal

@@ -1,0 +1,13 @@
+//! The book of a plan: the records, and the accepted changes that led to them.
+#![tactic(auto)]
+
+mod book;
+mod counted;
+mod fault;
+mod ground;
+mod plan_book;
+
+pub use book::Book;
+pub use fault::BookFault;
+pub use ground::Ground;
+pub use root_book::PlanBook;

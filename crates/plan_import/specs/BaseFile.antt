@@ -10,7 +10,7 @@ use Rattle.plan_schema.specs.Base.{part_count, has_horizon}
 use Rattle.plan_schema.specs.declared.limits.TheConstants.{PART_LIMIT, RECORD_LIMIT}
 use Rattle.plan_import.specs.declared.TheConstants.{BASE_BYTE_LIMIT}
 use Rattle.row_text.specs.Row.{◌>>=◌}
-use Rattle.row_text.specs.Open.{open_row_of}
+use Rattle.closed_tables.specs.Open.{open_row_of}
 use Rattle.plan_import.specs.declared.ImportFault.{ImportFault}
 use Rattle.plan_import.specs.declared.ImportFault.TheVariants as faults
 

@@ -11,10 +11,10 @@ ghost use Rattle.plan_import.specs.Imported.{Imported};
 ghost use Rattle.plan_import.specs.Told.{Tells, TellsFault};
 
 use byte_lines::{ReadAllFault, Source, read_all};
+use closed_tables::read_open_record;
 use csv::{ByteRecord, ReaderBuilder};
 use plan_schema::limits::{PART_LIMIT, RECORD_LIMIT};
 use plan_schema::{Contents, FieldFault, Key, Record, Room};
-use row_text::read_open_record;
 use std::alloc::{AllocError, Global};
 use thiserror::Error;
 

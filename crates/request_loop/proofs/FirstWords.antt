@@ -5,7 +5,7 @@ use Rattle.plan_schema.specs.declared.key.Key.{Key}
 use Rattle.plan_schema.specs.declared.key.Record.{Record}
 use Rattle.plan_schema.specs.declared.fault.Rule.TheVariants.{Shape}
 use Rattle.plan_schema.specs.declared.fault.FieldFault.{FieldFault}
-use Rattle.row_text.specs.Open.{is_closed_word, open_row_of}
+use Rattle.closed_tables.specs.Open.{is_closed_word, open_row_of}
 use Rattle.row_text.proofs.Fewer.{get_few, row_few}
 use Rattle.command_words.specs.Commands.{command_of}
 use Rattle.command_words.specs.Words.{words_of, first_words}

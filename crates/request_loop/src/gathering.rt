@@ -7,9 +7,9 @@ ghost use Rattle.session_rules.specs.Requests.{row_reading, load_wish, IsBad};
 ghost use Rattle.request_loop.specs.Reading.{Rows as Begun, begun_rows, with_row};
 ghost use Rattle.request_loop.specs.Gathered.{IsGathered, IsKept, ComesTo};
 
+use closed_tables::read_open_record;
 use command_words::{Bad, words_in};
 use plan_schema::{Change, FieldFault, Key, Name, Record, Rows};
-use row_text::read_open_record;
 use std::alloc::Global;
 
 /// A LOAD of which some rows were read.

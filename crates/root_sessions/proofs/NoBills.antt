@@ -14,7 +14,7 @@ use Rattle.plan_schema.specs.declared.key.Record.{Record}
 use Rattle.plan_schema.specs.Key.{key_cmp}
 use Rattle.plan_schema.specs.Contents.{Contents, with_record, without_key}
 use Rattle.row_text.specs.Row.{◌>>=◌, text_at, text_of_field, name_at, day_at, days_at, number_at, end_at, week_at, lot_at, calendar_at, plan_of, cal_of, holiday_of, part_of, stock_of, demand_of, receipt_of, bill_of, row_of_table, row_of}
-use Rattle.row_text.specs.Open.{is_closed_word, open_row_of}
+use Rattle.closed_tables.specs.Open.{is_closed_word, open_row_of}
 use Rattle.root_sessions.specs.Plans.{is_bill, has_no_bills}
 
 -- what is read is no bill

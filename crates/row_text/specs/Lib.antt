@@ -7,5 +7,4 @@ pub use Rattle.plan_schema.specs.Day
 pub use Rattle.plan_schema.specs.Key
 pub use Rattle.plan_schema.specs.Sound
 pub use Rattle.plan_schema.specs.Outside
-pub mod Open
 pub mod Laws

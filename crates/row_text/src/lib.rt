@@ -6,7 +6,6 @@ mod key_form;
 mod laws;
 mod lot;
 mod number;
-mod open;
 mod row;
 mod write;
 
@@ -17,7 +16,6 @@ pub use laws::{
     rows_have_one_spelling,
 };
 pub use number::{is_digits, read_number};
-pub use open::read_open_record;
 pub use row::read_record;
 pub use write::{
     RowText, key_bytes, push_day, push_number, push_word, row_bytes, write_key, write_record,

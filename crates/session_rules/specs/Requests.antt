@@ -10,7 +10,7 @@ use Rattle.plan_schema.specs.declared.change.Change.{Change}
 use Rattle.plan_schema.specs.declared.change.Change.TheVariants as changes
 use Rattle.plan_schema.specs.declared.fault.Rule.TheVariants.{Shape}
 use Rattle.plan_schema.specs.declared.fault.FieldFault.{FieldFault}
-use Rattle.row_text.specs.Open.{is_closed_word, open_row_of}
+use Rattle.closed_tables.specs.Open.{is_closed_word, open_row_of}
 use Rattle.byte_lines.specs.Lines.{lines_of}
 use Rattle.command_words.specs.Words.{words_of, is_blank}
 use Rattle.command_words.specs.Changes.{change_of}

@@ -2,12 +2,11 @@
 ghost use Rattle.std.specs.Prelude.{◌≡◌, true, IfOk};
 ghost use Rattle.std.specs.List.{slice_get};
 ghost use Rattle.plan_schema.specs.Sound.{is_sound_row};
-ghost use Rattle.row_text.specs.Open.{is_closed_word, open_row_of};
+ghost use Rattle.closed_tables.specs.Open.{is_closed_word, open_row_of};
 ghost use Rattle.row_text.specs.Texts.{texts};
 
-use crate::field::is_word;
-use crate::row::read_record;
 use plan_schema::{FieldFault, Key, Record, Rule};
+use row_text::{is_word, read_record};
 
 /// The row that the fields spell, where its table is one that the program accepts, or the first faulty field. Bills aren't
 /// accepted yet: their table word is a faulty field 0.

@@ -1,5 +1,5 @@
 -- Commands that are questions, and their answers in sessions.
-use Rattle.std.proofs.Common.{◌≡◌, ℕ, List, length, refl, sym, ◌∙◌, ap, true, ◌&&◌}
+use Rattle.std.proofs.Common.{◌≡◌, ℕ, List, length, refl, ap, true, ◌&&◌}
 use Rattle.std.proofs.lemmas.Bool.{and_parts}
 use Rattle.std.specs.Prelude.{Option, Some, None, Result, Ok, Err, is_ok, is_some, option_map}
 use Rattle.std.specs.Result.{result_ok}

@@ -81,12 +81,14 @@ impl PlanBook for Book {
         change: Change,
     ) -> Result<u64, BookFault> {
         let user = *user;
-        answer_of(self.core.change(Entry {
-            session,
-            line,
-            user,
-            change,
-        }))
+        answer_of(
+            self.core.change(Entry {
+                session,
+                line,
+                user,
+                change,
+            }),
+        )
     }
 
     fn ask(&self, user: &Name, scenario: &Name, wanted: Wanted) -> Result<Job, BookFault> {

@@ -14,7 +14,7 @@ use Rattle.planning_rules.proofs.Membership.{IsIn, kept_in}
 use Rattle.walk_rules.specs.declared.key.MemoKey.{MemoKey}
 use Rattle.walk_rules.specs.Cells.{Cells, records}
 use Rattle.walk_rules.specs.Memo.{Pairs, key_of, key_eq}
-use Rattle.walk_rules.specs.Walks.{Part, Parts, State, names_of, known_at, learn, releases_of, is_ready, frontier, with_hit, found_by, look_up, with_hits, IsSettled, Took, at_first, put, dropped}
+use Rattle.walk_rules.specs.Walks.{Part, Parts, State, names_of, known_at, learn, releases_of, is_ready, with_hit, found_by, look_up, with_hits, IsSettled, Took, at_first, put, dropped}
 use Rattle.walk_rules.specs.Works.{AreUpward}
 use Rattle.plan_walk.specs.declared.round.Round.{Round}
 use Rattle.plan_walk.specs.declared.round.Tally.{Tally}
@@ -24,7 +24,7 @@ use Rattle.plan_walk.proofs.Ends.{ends_settled}
 
 -- what is learnt -----------------------------------------------------------------------------------------------------------------
 
-left_with : (part : Part) (parts : Parts) → left (part ∷ parts) ≡ cond (is_none part.known) 1 0 + left parts
+pub left_with : (part : Part) (parts : Parts) → left (part ∷ parts) ≡ cond (is_none part.known) 1 0 + left parts
 left_with part parts = sum_by-cons (λ (p : Part). cond (is_none p.known) 1 0) part parts
 
 no_more : (part : Part) (now parts : Parts) → left now ≤ left parts → left (part ∷ now) ≤ left (part ∷ parts)
@@ -89,17 +89,17 @@ look_most cells s n = by_ready (is_ready (records cells) s.parts n)
     by_ready true = by_found (lookup (key_eq key) s.pairs)
     by_ready false = omega arith
 
-hits_most : (cells : Cells) (ns : List Name) (s : State) → left (fold (look_up cells) s ns).parts ≤ left s.parts
+pub hits_most : (cells : Cells) (ns : List Name) (s : State) → left (fold (look_up cells) s ns).parts ≤ left s.parts
 hits_most cells [] s = omega arith
 hits_most cells (n ∷ ns) s =
     let rest = hits_most cells ns (look_up cells s n) in
     let here = look_most cells s n in
     omega arith
 
-abbrev with_result : Parts → (Name × Known) → Parts
+abbrev pub with_result : Parts → (Name × Known) → Parts
 with_result parts r = learn parts r.0 r.1
 
-took_parts : (cells : Cells) (most : ℕ) (start : State) (rs : List (Name × Known)) (d : ℕ) (s : State) → Took cells most start rs d s → s.parts ≡ fold with_result start.parts rs
+pub took_parts : (cells : Cells) (most : ℕ) (start : State) (rs : List (Name × Known)) (d : ℕ) (s : State) → Took cells most start rs d s → s.parts ≡ fold with_result start.parts rs
 took_parts cells most start _ _ _ at_first = refl
 took_parts cells most start _ _ _ (put rs d s r t) = ap (λ ps. with_result ps r) (took_parts cells most start rs d s t) ∙ sym (fold-append with_result start.parts rs (r ∷ []))
 took_parts cells most start _ _ _ (dropped rs d s r t) = ap (λ ps. with_result ps r) (took_parts cells most start rs d s t) ∙ sym (fold-append with_result start.parts rs (r ∷ []))
@@ -111,7 +111,7 @@ results_most (r ∷ rs) parts =
     let here = learnt_most parts r.0 r.1 in
     omega arith
 
-results_less : (rs : List (Name × Known)) (parts : Parts) (front : List Name) → map (λ r. r.0) rs ≡ front → (front ≡ [] → ⊥) → ((n : Name) → IsIn n front → IsIn n (names_of parts) × (is_none (known_at parts n) ≡ true))
+pub results_less : (rs : List (Name × Known)) (parts : Parts) (front : List Name) → map (λ r. r.0) rs ≡ front → (front ≡ [] → ⊥) → ((n : Name) → IsIn n front → IsIn n (names_of parts) × (is_none (known_at parts n) ≡ true))
     → left (fold with_result parts rs) < left parts
 results_less [] parts front same some each = absurd (some (sym same))
 results_less (r ∷ rs) parts front same some each =

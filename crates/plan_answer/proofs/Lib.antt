@@ -6,3 +6,9 @@ pub mod Promising
 pub mod ParentLists
 pub mod OwnPegs
 pub mod Settled
+pub mod Refusing
+pub mod Ended
+pub mod CollectedParts
+pub mod Collected
+pub mod Answered
+pub mod Asked

@@ -11,8 +11,8 @@ use Rattle.planning_rules.specs.Days.{start_of, days_of}
 use Rattle.planning_rules.specs.Pegs.{pegs, no_day}
 use Rattle.planning_rules.specs.Plan.{plan}
 use Rattle.planning_rules.specs.Refused.{plan_refusal, level_refusal}
+use Rattle.query_rules.specs.Lines.{select_lines}
 use Rattle.query_rules.specs.Queries.{query_refusal}
-use Rattle.query_rows.specs.Rows.{select_lines}
 use Rattle.command_words.specs.declared.reply.Reply.{Reply}
 use Rattle.session_rules.specs.Answers.{lists_of, plan_lines, level_line, peg_line, promise_line, query_reply}
 use Rattle.plan_answer.specs.Asks.{Question, ShowsCell, TellsLevel, TellsPlan, Pegs, Promises, Selects}

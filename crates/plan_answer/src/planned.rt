@@ -8,7 +8,7 @@ ghost use Rattle.planning_rules.specs.Plan.{Planned, plan, has_outcome};
 ghost use Rattle.query_language.specs.Trees.{query_tree};
 ghost use Rattle.walk_rules.specs.Cells.{records};
 ghost use Rattle.plan_jobs.specs.Jobs.{IsJob, wants_plan};
-ghost use Rattle.query_rows.specs.Rows.{select_lines};
+ghost use Rattle.query_rules.specs.Lines.{select_lines};
 ghost use Rattle.query_rules.specs.Queries.{parts_of};
 ghost use Rattle.plan_answer.specs.Asks.{TellsPlan, Promises};
 ghost use Rattle.plan_answer.specs.Replies.{question_lines};

@@ -160,7 +160,7 @@ pub nothing_made : (ks : List (Option Known)) (ns : List Name) (nodes : List Nod
 nothing_made ks ns nodes count named many e =
     (λ i. parts_of (named i) (e i)) ∙ nothing_parts ns count (many ∙ sym (names_long nodes) ∙ ap length named)
 
-names_unknown : (ns : List Name) → names_of (unknown ns) ≡ ns
+pub names_unknown : (ns : List Name) → names_of (unknown ns) ≡ ns
 names_unknown [] = refl
 names_unknown (n ∷ ns) = ap (λ ms. n ∷ ms) (names_unknown ns)
 

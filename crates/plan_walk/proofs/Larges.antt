@@ -48,6 +48,14 @@ module _ (c : Contents) (parts : Parts) (right : AreRight c parts) where
       by_cases None e = ap is_large (settled_none n s e ∙ sym e)
       by_cases (Some known) e = ap is_large (right n known e ∙ sym e)
 
+  -- and whether it has an outcome
+  pub outcome_same : (n : Name) → IsSettled c parts n → has_outcome (plan c n) ≡ has_outcome (known_at parts n)
+  outcome_same n s = by_cases (known_at parts n) refl
+    where
+      by_cases : (o : Option Known) → known_at parts n ≡ o → has_outcome (plan c n) ≡ has_outcome (known_at parts n)
+      by_cases None e = ap has_outcome (settled_none n s e ∙ sym e)
+      by_cases (Some known) e = ap has_outcome (right n known e ∙ sym e)
+
 -- the least name so far that passes
 pub least_more : (test : Name → Bool) (ns : List Name) (i : ℕ) (n : Name) (least now : Option Name) → slice_get ns i ≡ Some n → least ≡ least_name test (take i ns) → (b : Bool) → test n ≡ b
     → now ≡ cond b (earlier least n) least → now ≡ least_name test (take (i + 1) ns)

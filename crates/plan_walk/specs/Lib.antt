@@ -7,4 +7,5 @@ pub mod Results
 pub mod Settled
 pub mod View
 pub mod Walk
+pub mod Rounds
 pub mod FrontSteps

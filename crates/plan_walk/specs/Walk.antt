@@ -1,5 +1,5 @@
 -- What holds of walks.
-use Rattle.std.specs.Prelude.{◌≡◌, ℕ, ◌<◌, ◌⊎◌, List, [], true, if◌then◌else◌, Some, map, length, slice_get}
+use Rattle.std.specs.Prelude.{◌≡◌, ℕ, ◌<◌, ◌⊎◌, List, [], true, if◌then◌else◌, Some, is_none, count_by, map, length, slice_get}
 use Rattle.std.specs.List.{AllByRecursion}
 use Rattle.plan_schema.specs.declared.name.Name.{Name}
 use Rattle.planning_rules.specs.Plan.{Known, has_calendar}
@@ -9,7 +9,8 @@ use Rattle.walk_rules.specs.Cells.{Cells, records}
 use Rattle.walk_rules.specs.Memo.{Pairs}
 use Rattle.walk_rules.specs.Rights.{HasCells, AreRight}
 use Rattle.walk_rules.specs.Steps.{calendar_in}
-use Rattle.walk_rules.specs.Walks.{State, names_of, unknown, frontier, results_of, is_empty, IsSettled, Took, with_hits}
+use Rattle.walk_rules.specs.Walks.{State, Parts, names_of, unknown, frontier, results_of, is_empty, IsSettled, Took, with_hits}
+use Rattle.walk_rules.specs.Works.{AreUpward}
 use Rattle.plan_jobs.specs.declared.job.Job.{Job}
 use Rattle.plan_jobs.specs.Jobs.{IsJob, asked_by}
 use Rattle.walk_names.specs.Names.{AreWalkNames}
@@ -32,6 +33,7 @@ pub record IsWalk (job : Job) (plan : VersionId) (nodes : List Node) (known : �
   pub graph : IsGraph nodes
   pub fits : Fits job.cells plan nodes
   pub whole : known ≡ length nodes
+  pub names : AreWalkNames (records job.cells) (asked_by (records job.cells) job.wanted) (node_names nodes)
   pub steps : AllByRecursion (CanStep job.cells) (node_names nodes)
   pub places : (k q : ℕ) → slice_get front k ≡ Some q → q < length nodes
   pub numbered : numbers ≡ node_names nodes
@@ -41,6 +43,13 @@ pub record Begins (job : Job) (w : View) : Type 0 where
   pub job_is : w.job ≡ job
   pub names : AreWalkNames (records job.cells) (asked_by (records job.cells) job.wanted) (names_of w.parts)
   pub nothing : w.parts ≡ unknown (names_of w.parts)
+
+-- what holds of each walk: its cells are those of a job, and its parts are those in reach of the names that the job asks for, each after its
+-- parents, where none of the first four refusals of the plan applies
+pub record WalksItsJob (w : View) : Type 0 where
+  pub is_job : IsJob w.job.wanted w.job.cells
+  pub names : AreWalkNames (records w.job.cells) (asked_by (records w.job.cells) w.job.wanted) (names_of w.parts)
+  pub upward : AreUpward (records w.job.cells) [] (names_of w.parts)
 
 -- a walk that can go on: its frontier is that of the definition, and each value that is known is the plan's
 pub record IsOpen (w : View) : Type 0 where
@@ -53,6 +62,10 @@ IsSolved w solved = (solved ≡ []) ⊎ ((solved ≡ results_of w.job.cells w.pa
 
 abbrev pub round_of : List Name → Round
 round_of front = if is_empty front then Done else More
+
+-- how many parts nothing is known of
+abbrev pub left : Parts → ℕ
+left parts = count_by (λ part. is_none part.known) parts
 
 -- one settling: the results are taken in, in order, with so many dropped, and then all hits are
 pub record Settles (old new : View) (first pairs : Pairs) (most : ℕ) (solved : List (Name × Known)) (round : Round) (tally : Tally) : Type 0 where

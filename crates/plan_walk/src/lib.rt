@@ -6,6 +6,7 @@ mod frontier;
 mod graph;
 mod hits;
 mod large;
+mod laws;
 mod node;
 mod results;
 mod round;
@@ -17,6 +18,7 @@ mod waiting;
 mod walk;
 
 pub use frontier::solve;
+pub use laws::{walks_end, work_is_enough};
 pub use round::{Round, Tally};
 pub use solved::Solved;
 pub use walk::Walk;

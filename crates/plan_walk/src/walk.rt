@@ -11,7 +11,7 @@ ghost use Rattle.walk_rules.specs.Walks.{known_at, names_of};
 ghost use Rattle.planning_rules.specs.Plan.{plan};
 ghost use Rattle.planning_rules.specs.Refused.{is_large, least_name};
 ghost use Rattle.plan_walk.specs.Nodes.{names_at};
-ghost use Rattle.plan_walk.specs.Walk.{Begins, IsOpen, IsSolved, Settles, EndsSettled, round_of};
+ghost use Rattle.plan_walk.specs.Walk.{Begins, IsOpen, IsSolved, Settles, EndsSettled, WalksItsJob, round_of};
 
 use crate::graph::{nodes_of, nothing_known, ready_places, version_of};
 use crate::large::least_large;
@@ -123,6 +123,13 @@ impl Walk {
         let round = round_after(next.as_slice());
         self.front = next;
         Ok((round, tally))
+    }
+
+    /// Tells a caller what holds of each walk.
+    pub fn holds(&self)
+        ensures { WalksItsJob self.now }
+    {
+        let _job = &self.job;
     }
 
     /// The question that the walk is for, with its cells.

@@ -131,20 +131,18 @@ selected_rows plans c query (n ∷ ns) = by_case (is_selected plans c query.cond
     by_case false e again = again ∙ λ i. cond (e i) ((n, map (column_value plans c n) query.columns) ∷ []) [] ++ flat_map (λ m. row_with (column_value plans c m) m query) ns
 
 -- each cell's rows are those of its name among all records
-cell_known : Contents → Cells → Type 0
-cell_known c cells = AllByRecursion (λ cell. cell_rows c cell.0.cell ≡ cell.1) cells
+abbrev pub AreKnownCells : Contents → Cells → Type 0
+AreKnownCells c cells = AllByRecursion (λ cell. cell_rows c cell.0.cell ≡ cell.1) cells
 
 known_later : (c d : Contents) (first : CellName) (rows : Contents) (cells : Cells) → are_own_rows first rows ≡ true → AllByRecursion (λ other. cell_eq other.0.cell first ≡ false) cells
-    → c ≡ rows ++ d → cell_known d cells → cell_known c cells
-unfolding cell_known
+    → c ≡ rows ++ d → AreKnownCells d cells → AreKnownCells c cells
 known_later c d first rows [] own apart is known = tt
 known_later c d first rows (cell ∷ cells) own apart is known = (
   ap (λ x. cell_rows x cell.0.cell) is ∙ rows_append rows d cell.0.cell ∙ (λ i. own_none rows first cell.0.cell own (eq_turned cell.0.cell first ∙ apart.0) i ++ known.0 i),
   known_later c d first rows cells own apart.1 is known.1,
 )
 
-known_cells : (cells : Cells) → are_own_cells cells ≡ true → AreApart cells → cell_known (records cells) cells
-unfolding cell_known
+pub known_cells : (cells : Cells) → are_own_cells cells ≡ true → AreApart cells → AreKnownCells (records cells) cells
 known_cells [] own apart = tt
 known_cells (cell ∷ cells) own apart =
     let two = and_parts (are_own_rows cell.0.cell cell.1) (are_own_cells cells) own in (
@@ -169,9 +167,8 @@ rows_of_cell plans c query name rows is (row ∷ some) own =
         λ i. row_same plans c n query (value_by rows (plans n) n) (λ column. ap (λ x. value_by x (plans n) n column) (sym here) ∙ value_is_from_cell plans c n column) i ++ again i
     by_key _ value mine again = again
 
-over_cells : (plans : Name → Option Known) (c : Contents) (query : QueryTree) (cells : Cells) → are_own_cells cells ≡ true → cell_known c cells
+over_cells : (plans : Name → Option Known) (c : Contents) (query : QueryTree) (cells : Cells) → are_own_cells cells ≡ true → AreKnownCells c cells
     → rows_over plans query cells ≡ flat_map (λ n. row_with (column_value plans c n) n query) (parts_of (records cells))
-unfolding cell_known
 over_cells plans c query [] own known = refl
 over_cells plans c query (cell ∷ cells) own known =
     let two = and_parts (are_own_rows cell.0.cell cell.1) (are_own_cells cells) own in

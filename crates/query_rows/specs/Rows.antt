@@ -1,5 +1,5 @@
 -- The row of one part of a query's answer, from the rows of the part's cell and what is known of its plan.
-use Rattle.std.specs.Prelude.{ℕ, List, [], ◌∷◌, Bool, true, not, ◌&&◌, ◌||◌, if◌then◌else◌, Option, Some, None, map, flat_map, sum, sum_by, decimal}
+use Rattle.std.specs.Prelude.{ℕ, List, [], ◌∷◌, Bool, true, not, ◌&&◌, ◌||◌, if◌then◌else◌, Option, Some, None, map, flat_map, sum, sum_by}
 use Rattle.std.specs.Option.{option_copied}
 use Rattle.plan_schema.specs.declared.name.Name.{Name}
 use Rattle.plan_schema.specs.declared.key.Key.{Key}
@@ -14,8 +14,7 @@ use Rattle.planning_rules.specs.Promise.{least_of}
 use Rattle.query_language.specs.declared.column.Column.{Column}
 use Rattle.query_language.specs.declared.column.Column.TheVariants as columns
 use Rattle.query_language.specs.Trees.{CondTree, Compares, IsNamed, Negation, Both, Either, QueryTree}
-use Rattle.query_rules.specs.Queries.{lead_in, safety_in, last_of, compares, parts_of, selected}
-use Rattle.row_text.specs.Spelling.{words_text}
+use Rattle.query_rules.specs.Queries.{lead_in, safety_in, last_of, compares, parts_of}
 use Rattle.walk_rules.specs.Cells.{Cells}
 use Rattle.explosion.specs.Sums.{bill_count}
 use Rattle.query_rows.specs.declared.part.Part.{Part}
@@ -71,14 +70,6 @@ is_selected_with values n (Some cond) = meets_with values n cond
 -- the values of a part that is held
 abbrev pub values_of : Part → Column → ℕ
 values_of part = value_by part.cell.now (option_copied part.known) part.name.now
-
--- the line of a selected part: its name, and the values of the columns in the order asked, parted by single spaces
-abbrev pub select_line : (Name × List ℕ) → List ℕ
-select_line (name, values) = words_text (name ∷ map decimal values)
-
--- the lines of a query over records that are planned in full
-abbrev pub select_lines : Contents → QueryTree → List (List ℕ)
-select_lines c query = map select_line (selected c query)
 
 -- the row of a part with these values, if it is selected
 abbrev pub row_with : (Column → ℕ) → Name → QueryTree → List (Name × List ℕ)

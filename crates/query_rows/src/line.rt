@@ -1,7 +1,8 @@
 //! The line of a selected part.
 ghost use Rattle.std.specs.Prelude.{◌≡◌, ◌++◌, [], ◌∷◌, map, decimal, OnOk};
 ghost use Rattle.row_text.specs.Spelling.{spaced};
-ghost use Rattle.query_rows.specs.Rows.{select_line, values_of};
+ghost use Rattle.query_rules.specs.Lines.{select_line};
+ghost use Rattle.query_rows.specs.Rows.{values_of};
 
 use crate::part::Part;
 use crate::value::value;

@@ -10,7 +10,8 @@ ghost use Rattle.plan_schema.specs.declared.key.Key.TheVariants as keys;
 ghost use Rattle.plan_schema.specs.Contents.{is_ordered, record_at};
 ghost use Rattle.walk_rules.specs.Cells.{records, are_own_rows, are_own_cells};
 ghost use Rattle.query_rules.specs.Queries.{asks_for_plan, selected_from};
-ghost use Rattle.query_rows.specs.Rows.{select_line, select_lines, row_with, rows_in, rows_over, values_of};
+ghost use Rattle.query_rules.specs.Lines.{select_line, select_lines};
+ghost use Rattle.query_rows.specs.Rows.{row_with, rows_in, rows_over, values_of};
 
 use crate::condition::is_selected;
 use crate::line::add_line;

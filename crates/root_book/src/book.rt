@@ -15,7 +15,7 @@ ghost use Rattle.root_book.specs.History.{story_of, is_of_one_record};
 use crate::counted::Counted;
 use crate::fault::BookFault;
 use crate::ground::Ground;
-use crate::plan_book::PlanBook;
+use crate::root_book::PlanBook;
 use plan_journal::Journal;
 use plan_schema::limits::{CARRIED_LIMIT, ENTRY_LIMIT, PART_LIMIT, RECORD_LIMIT};
 use plan_schema::{Change, Contents, Entry, Key, Name, Refusal, Room};

@@ -5,7 +5,7 @@ mod book;
 mod counted;
 mod fault;
 mod ground;
-mod plan_book;
+mod root_book;
 
 pub use book::Book;
 pub use fault::BookFault;

@@ -1,6 +1,7 @@
 -- What a command is answered at the state after a history of changes: plain records, folded from the history and planned in full.
 use Rattle.std.specs.Prelude.{ℕ, ◌+◌, ◌-◌, Bool, nat_lt, ◌==◌, List, [], ◌∷◌, length, map, filter, slice_index, Option, Some, None, unwrap_or, if◌then◌else◌, codes, decimal}
 use Rattle.std.specs.List.{range_with_len}
+use Rattle.std.specs.Result.{result_ok}
 use Rattle.plan_schema.specs.declared.name.Name.{Name}
 use Rattle.plan_schema.specs.declared.refusal.Refusal.{Refusal}
 use Rattle.plan_schema.specs.declared.change.Change.{Change}
@@ -9,6 +10,10 @@ use Rattle.plan_schema.specs.Day.{day_text}
 use Rattle.plan_schema.specs.Contents.{Contents, cell_rows}
 use Rattle.plan_schema.specs.Refusals.{first_of}
 use Rattle.row_text.specs.Spelling.{words_text, row_text, calendar_text}
+use Rattle.query_language.specs.Trees.{QueryTree}
+use Rattle.query_language.specs.Growing.{query_of}
+use Rattle.query_rules.specs.Lines.{select_lines}
+use Rattle.query_rules.specs.Queries.{query_refusal}
 use Rattle.planning_rules.specs.Bills.{level}
 use Rattle.planning_rules.specs.Days.{start_of, days_of}
 use Rattle.planning_rules.specs.Netting.{Lists}
@@ -103,6 +108,11 @@ module _ (world : World) (point : ℕ) (user scenario : Name) where
   abbrev pub promise_answer : Contents → Name → Option Reply
   promise_answer c part = query_answer (plan_refusal c (part ∷ [])) (map (promise_line (start_of c) (lists_of (plan c part))) (range_with_len 0 (days_of c)))
 
+  -- a text that is no query is answered nothing
+  abbrev pub select_answer : Contents → Option QueryTree → Option Reply
+  select_answer c None = None
+  select_answer c (Some query) = query_answer (query_refusal c query) (select_lines c query)
+
 -- what a command that is no change is answered after a history; the user is the one who speaks
 unfoldable pub answer : Contents → List Entry → Name → Command → Option Reply
 answer base history user (commands.Hello name) = Some (replies.Ok (length history))
@@ -125,4 +135,7 @@ answer base history user (commands.Peg scenario part day) =
 answer base history user (commands.Atp scenario part) =
     let world = world_after base history in
     promise_answer world (length history) user scenario (contents_in world scenario) part
+answer base history user (commands.Select scenario text) =
+    let world = world_after base history in
+    select_answer world (length history) user scenario (contents_in world scenario) (result_ok (query_of text))
 answer base history user _ = None

@@ -46,7 +46,7 @@ pair_right P pairs most k v all one = by_entry (lookup_entry (key_eq k) pairs) r
 
 -- what is known stays known ----------------------------------------------------------------------------------------------------
 
-some_learn : (parts : Parts) (n p : Name) (known : Known) → is_some (known_at parts p) ≡ true → is_some (known_at (learn parts n known) p) ≡ true
+pub some_learn : (parts : Parts) (n p : Name) (known : Known) → is_some (known_at parts p) ≡ true → is_some (known_at (learn parts n known) p) ≡ true
 some_learn [] n p known h = h
 some_learn (part ∷ parts) n p known h = by_cases (name_eq part.name n) (name_eq part.name p) refl (some_learn parts n p known) h
   where

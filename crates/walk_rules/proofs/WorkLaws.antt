@@ -55,7 +55,7 @@ settled_not_ready c parts _ (is_blocked n p i lacks s) r =
     contained_in_list ns p h = in_contained ns p h
 
 -- where not all pass, one doesn't
-one_fails : (f : Name → Bool) (ps : List Name) → list_all f ps ≡ false → (p : Name) × IsIn p ps × (f p ≡ false)
+pub one_fails : (f : Name → Bool) (ps : List Name) → list_all f ps ≡ false → (p : Name) × IsIn p ps × (f p ≡ false)
 one_fails f [] h = cc
 one_fails f (p ∷ ps) h = by_cases (f p) refl (one_fails f ps) h
   where

@@ -7,7 +7,7 @@ use Rattle.query_language.specs.Trees.{query_tree}
 use Rattle.query_rules.specs.Queries.{parts_of}
 use Rattle.walk_rules.specs.Cells.{records}
 use Rattle.plan_jobs.proofs.Gathering.{asked_reached}
-use Rattle.query_rows.specs.Rows.{select_line}
+use Rattle.query_rules.specs.Lines.{select_line}
 use Rattle.plan_answer.proofs.Selecting.{same_rows}
 use Rattle.plan_answer.proofs.planned.lines_of_query.Goals as goal
 

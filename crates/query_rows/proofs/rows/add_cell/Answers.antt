@@ -3,7 +3,8 @@ use Rattle.plan_schema.specs.declared.name.Name.{Name}
 use Rattle.query_language.specs.Trees.{query_tree}
 use Rattle.walk_rules.specs.Cells.{are_own_rows}
 use Rattle.explosion.proofs.Totals.{append_none}
-use Rattle.query_rows.specs.Rows.{select_line, rows_in}
+use Rattle.query_rules.specs.Lines.{select_line}
+use Rattle.query_rows.specs.Rows.{rows_in}
 use Rattle.query_rows.proofs.RowLaws.{rows_of_other}
 use Rattle.query_rows.proofs.rows.add_cell.Goals as goal
 

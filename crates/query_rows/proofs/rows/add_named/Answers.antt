@@ -4,7 +4,8 @@ use Rattle.std.specs.Option.{option_copied}
 use Rattle.plan_schema.specs.declared.name.Name.{Name}
 use Rattle.query_language.specs.Trees.{query_tree}
 use Rattle.explosion.proofs.Totals.{append_none}
-use Rattle.query_rows.specs.Rows.{select_line, rows_in}
+use Rattle.query_rules.specs.Lines.{select_line}
+use Rattle.query_rows.specs.Rows.{rows_in}
 use Rattle.query_rows.proofs.RowLaws.{rows_of_part, rows_of_none}
 use Rattle.query_rows.proofs.rows.add_named.Goals as goal
 

@@ -1,7 +1,8 @@
 use Rattle.std.proofs.Common.{◌≡◌, map, take}
 use Rattle.query_language.specs.Trees.{query_tree}
 use Rattle.record_versions.specs.Shown.{cells_of}
-use Rattle.query_rows.specs.Rows.{select_line, rows_over}
+use Rattle.query_rules.specs.Lines.{select_line}
+use Rattle.query_rows.specs.Rows.{rows_over}
 use Rattle.query_rows.proofs.rows.lines_over.Given as goal
 
 abbrev pub invariant-loop-id : goal.invariant-loop-id

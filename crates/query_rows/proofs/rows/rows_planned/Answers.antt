@@ -2,7 +2,8 @@ use Rattle.std.proofs.Common.{◌≡◌, List, ℕ, map, ◌∙◌, ap, subst}
 use Rattle.std.specs.Prelude.{IfOk}
 use Rattle.query_language.specs.Trees.{query_tree}
 use Rattle.walk_rules.specs.Cells.{are_own_cells}
-use Rattle.query_rows.specs.Rows.{select_line, rows_over}
+use Rattle.query_rules.specs.Lines.{select_line}
+use Rattle.query_rows.specs.Rows.{rows_over}
 use Rattle.plan_jobs.proofs.Rows.{apart}
 use Rattle.query_rows.proofs.RowLaws.{rows_are_selected}
 use Rattle.query_rows.proofs.rows.rows_planned.Goals as goal

@@ -4,7 +4,8 @@ use Rattle.plan_schema.specs.declared.name.Name.{Name}
 use Rattle.planning_rules.specs.Plan.{Known, plan}
 use Rattle.query_language.specs.Trees.{query_tree}
 use Rattle.walk_rules.specs.Cells.{records, are_own_cells}
-use Rattle.query_rows.specs.Rows.{select_line, rows_over}
+use Rattle.query_rules.specs.Lines.{select_line}
+use Rattle.query_rows.specs.Rows.{rows_over}
 use Rattle.plan_jobs.proofs.Rows.{apart}
 use Rattle.query_rows.proofs.RowLaws.{rows_are_selected}
 use Rattle.query_rows.proofs.StillLaws.{still_rows}

@@ -8,6 +8,7 @@ use Rattle.walk_rules.specs.Cells.{records, version_in}
 use Rattle.walk_rules.specs.Walks.{unknown, frontier}
 use Rattle.walk_rules.specs.Rights.{AreRight}
 use Rattle.plan_jobs.specs.Jobs.{asked_by}
+use Rattle.walk_names.specs.Names.{AreWalkNames}
 use Rattle.plan_walk.specs.declared.node.Node.{Node}
 use Rattle.plan_walk.specs.Places.{AreDistinct, parts_of}
 use Rattle.plan_walk.specs.Nodes.{Fits, node_names, names_at, shown}
@@ -55,6 +56,7 @@ invariant_of-result c =
       graph = made.graph;
       fits = subst (λ p. Fits cells p nodes) (sym c.version_of-plan.ensures) (made_fits cells ns nodes made);
       whole = sym (shown_long known) ∙ as_many (shown known) nodes c.len.result many c.in_ok-known.ensures;
+      names = subst (AreWalkNames (records cells) (asked_by (records cells) c.args.job.wanted)) (sym made.named) c.in_ok-names.ensures.names;
       steps = subst (AllByRecursion (CanStep cells)) (sym made.named)
           (all_step c.args.job.wanted cells c.requires.job c.requires.wants (asked_by (records cells) c.args.job.wanted) ns c.in_ok-names.ensures.names);
       places = subst (λ (ms : List Node). (k q : ℕ) → slice_get c.in_ok-front.front.items k ≡ Some q → q < length ms) c.as_slice-2.ensures.value c.in_ok-front.ensures.places;

@@ -1,2 +1,10 @@
 pub mod Begun
 pub mod Reclaimed
+pub mod Histories
+pub mod Entered
+pub mod Cells
+pub mod Asked
+pub mod TreeLines
+pub mod Settled
+pub mod Refusing
+pub mod Tidied

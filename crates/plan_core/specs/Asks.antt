@@ -1,5 +1,5 @@
 -- What a core answers to a question.
-use Rattle.std.specs.Prelude.{◌≡◌, ℕ, Option, Some, None}
+use Rattle.std.specs.Prelude.{◌≡◌, ℕ, Some, None}
 use Rattle.plan_schema.specs.declared.name.Name.{Name}
 use Rattle.plan_schema.specs.declared.refusal.Refusal.{Refusal}
 use Rattle.scenario_rules.specs.World.{contents_in}

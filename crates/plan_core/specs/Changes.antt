@@ -1,5 +1,5 @@
 -- What a core answers to a change, and what is of it then.
-use Rattle.std.specs.Prelude.{◌≡◌, ◌⊎◌, ℕ, ◌%◌, ◌==◌, Bool, true, false, Option, Some, None, Result, Ok, Err}
+use Rattle.std.specs.Prelude.{◌≡◌, ◌⊎◌, ℕ, ◌%◌, ◌==◌, if◌then◌else◌, Bool, true, false, Option, Some, None, Result, Ok, Err}
 use Rattle.plan_schema.specs.declared.name.Name.{Name}
 use Rattle.plan_schema.specs.declared.change.Change.{Change}
 use Rattle.plan_schema.specs.declared.change.Entry.{Entry}
@@ -13,7 +13,7 @@ use Rattle.plan_core.specs.State.{State, history, point_of, with_entry, added}
 use Rattle.plan_core.specs.Reclaims.{IsReclaimed}
 
 -- why a change is refused after the history: the first rule that it breaks
-abbrev pub refusal_of : State → Name → Change → Option Refusal
+unfoldable pub refusal_of : State → Name → Change → Option Refusal
 refusal_of core user change = refused core.base (history core) user change
 
 -- a refusal for which want of memory may stand, as for none: one for want of room in the contents or the journal. All others are found
@@ -24,6 +24,10 @@ yields_to_memory (Some (refusals.Full rooms.Parts)) = true
 yields_to_memory (Some (refusals.Full rooms.Records)) = true
 yields_to_memory (Some (refusals.Full rooms.Journal)) = true
 yields_to_memory (Some refusal) = false
+
+-- a refusal that isn't one of these
+abbrev pub first_nine : Option Refusal → Option Refusal
+first_nine refusal = if yields_to_memory refusal then None else refusal
 
 -- after each 1,024th change the core gives back what no scenario uses
 abbrev pub is_reclaim_due : ℕ → Bool

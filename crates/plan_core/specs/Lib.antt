@@ -5,3 +5,4 @@ pub mod Reclaims
 pub mod Changes
 pub mod Asks
 pub mod Rounds
+pub mod Trees

@@ -1,5 +1,5 @@
 -- What a round of a walk leaves of a core.
-use Rattle.std.specs.Prelude.{◌≡◌, ◌×◌, List}
+use Rattle.std.specs.Prelude.{◌≡◌, List}
 use Rattle.plan_schema.specs.declared.name.Name.{Name}
 use Rattle.planning_rules.specs.Plan.{Known}
 use Rattle.plan_walk.specs.declared.round.Round.{Round}

@@ -4,11 +4,12 @@ ghost use Rattle.scenario_rules.specs.Whole.{AreWholeContents, AreWithinLimits};
 ghost use Rattle.std.specs.List.{list_all};
 ghost use Rattle.record_versions.specs.Versions.{has_id};
 ghost use Rattle.plan_core.specs.Keys.{key_ids};
-ghost use Rattle.plan_core.specs.State.{begin_state, point_of};
+ghost use Rattle.plan_core.specs.State.{begin_state, point_of, added};
 ghost use Rattle.plan_core.specs.Reclaims.{IsReclaimed};
 
 use crate::began::Began;
 use crate::keys::stands_on;
+use crate::tally::added;
 use plan_journal::Journal;
 use plan_schema::{Contents, Known};
 use plan_walk::Tally;
@@ -22,16 +23,16 @@ use walk_rules::MemoKey;
 /// base is kept for its own sake: contracts alone see with which records and entries the core began.
 #[derive(Drop)]
 pub struct Core {
-    began: Began,
-    forest: Forest,
-    journal: Journal,
-    memo: Memo<MemoKey, Known>,
-    tally: Tally,
+    pub(crate) began: Began,
+    pub(crate) forest: Forest,
+    pub(crate) journal: Journal,
+    pub(crate) memo: Memo<MemoKey, Known>,
+    pub(crate) tally: Tally,
     /// How many entries the core began with.
-    before: usize,
+    pub(crate) before: usize,
     /// How many records all entries carry.
-    carried: u64,
-    alloc: Global,
+    pub(crate) carried: u64,
+    pub(crate) alloc: Global,
 }
 
 impl Model for Core {
@@ -95,6 +96,13 @@ impl Core {
         ensures { result ≡ self.now.tally }
     {
         self.tally
+    }
+
+    /// Adds work to the tally.
+    pub(crate) fn count(&mut self, work: Tally)
+        ensures { self.new ≡ record self.old { tally = added self.old.tally work } }
+    {
+        self.tally = added(self.tally, work);
     }
 
     /// Gives back the versions of cells that no scenario uses, and the pairs of the memo that stand on them. Answers how many accepted

@@ -10,3 +10,4 @@ pub mod DropLaws
 pub mod LineLaws
 pub mod FirstLaws
 pub mod BeginLaws
+pub mod RowsLaws

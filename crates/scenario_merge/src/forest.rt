@@ -3,7 +3,7 @@ ghost use Rattle.std.specs.Map.{lookup};
 ghost use Rattle.std.specs.BTreeMap.{is_at, insert_entry};
 ghost use Rattle.scenario_rules.specs.Whole.{IsWhole};
 ghost use Rattle.scenario_rules.specs.Steps.{all_put, with_changes};
-ghost use Rattle.std.specs.Prelude.{◌<◌, IsSome, [], ◌∷◌, ◌≡◌, true, length, is_some, IfOk, IfErr, IfSome, OnOk, OnErr, IsOk, Some, None};
+ghost use Rattle.std.specs.Prelude.{◌<◌, IsSome, [], ◌∷◌, ◌≡◌, true, not, ◌||◌, length, map, is_some, IfOk, IfErr, IfSome, OnOk, OnErr, IsOk, Some, None};
 ghost use Rattle.std.specs.Option.{option_map};
 ghost use Rattle.std.specs.List.{slice_get};
 ghost use Rattle.version_rules.specs.Meaning.{Meaning};
@@ -11,7 +11,7 @@ ghost use Rattle.scenario_merge.specs.Tree.{tree_row};
 ghost use Rattle.scenario_merge.specs.Grown.{world_by};
 ghost use Rattle.plan_schema.specs.Sound.{is_sound_change};
 ghost use Rattle.plan_schema.specs.declared.change.CellName.{CellName};
-ghost use Rattle.scenario_rules.specs.World.{scenario_at, scenario, begin_with};
+ghost use Rattle.scenario_rules.specs.World.{scenario_at, scenario, begin_with, is_name_of};
 ghost use Rattle.scenario_rules.specs.Steps.{step};
 ghost use Rattle.scenario_rules.specs.Refused.{named, access_refusal, scenario_refusal};
 ghost use Rattle.scenario_rules.specs.Whole.{AreWholeContents, AreWithinLimits};
@@ -22,7 +22,7 @@ ghost use Rattle.scenario_merge.specs.Grown.{IsGrown, IsAfterChanges, IsAsBefore
 ghost use Rattle.scenario_merge.specs.Faults.{IsAnswered};
 
 use crate::refusals::first_refusal;
-use crate::tree::access;
+use crate::tree::{access, is_name_of};
 use plan_schema::{Change, Contents, Key, Name, Record, Refusal};
 use record_versions::{IdSet, Ids, Store};
 use scenario_cells::{
@@ -52,6 +52,17 @@ pub struct TreeRow {
     pub owner: Option<Name>,
     /// Whether its owner alone may use it.
     pub private: bool,
+    /// How many own changes it has.
+    pub own: usize,
+}
+
+impl TreeRow {
+    /// Whether a user may use the scenario: it is shared, or theirs.
+    pub fn allows(&self, user: &Name) -> bool
+        ensures { result ≡ (not self.now.private || is_name_of self.now.owner user.now) }
+    {
+        !self.private || is_name_of(&self.owner, user)
+    }
 }
 
 /// The scenarios, by name. Each holds the ids of its cells, and all cells lie in one store, so that scenarios share those in which they
@@ -156,6 +167,13 @@ impl Forest {
         ensures { result ≡ option_map tree_row (slice_get self.now.world place) }
     {
         row_at(&self.scenarios, place)
+    }
+
+    /// All scenarios, in the order of their names.
+    pub fn rows(&self) -> Result<Vec<TreeRow>, AllocError>
+        ensures { IfOk result (λ rows. rows.items ≡ map tree_row self.now.world) }
+    {
+        all_rows(self.alloc, &self.scenarios)
     }
 
     /// Leaves the cells of these ids alone, among which all live ones are. Takes no memory.
@@ -377,6 +395,8 @@ fn tree_row(name: &Name, held: &Held) -> TreeRow
       owner = held.now.owner;
       private =
           held.now.private;
+      own =
+          length held.now.own;
     } }
 {
     TreeRow {
@@ -384,6 +404,7 @@ fn tree_row(name: &Name, held: &Held) -> TreeRow
         parent: held.parent,
         owner: held.owner,
         private: held.private,
+        own: held.own.len(),
     }
 }
 
@@ -400,6 +421,21 @@ fn row_at(scenarios: &BTreeMap<Name, Held>, place: usize) -> Option<TreeRow>
         left -= 1;
     }
     None
+}
+
+// The rows of all scenarios, in the order of names.
+fn all_rows(
+    alloc: Global,
+    scenarios: &BTreeMap<Name, Held>,
+) -> Result<Vec<TreeRow>, AllocError>
+    ensures { (m : Meaning) → IfOk result
+        (λ rows. rows.items ≡ map tree_row (world_by m scenarios.now.entries)) }
+{
+    let mut rows = Vec::new(alloc);
+    for (name, held) in scenarios.iter() {
+        rows.push(tree_row(name, held))?;
+    }
+    Ok(rows)
 }
 
 // Puts a value under a key.

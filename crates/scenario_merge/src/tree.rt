@@ -42,7 +42,7 @@ fn same_name(name: &Name, other: &Name) -> bool
 }
 
 /// Whether a name that may be missing is this one.
-fn is_name_of(name: &Option<Name>, other: &Name) -> bool
+pub(crate) fn is_name_of(name: &Option<Name>, other: &Name) -> bool
     ensures { result ≡ world.is_name_of name.now other.now }
 {
     match name {

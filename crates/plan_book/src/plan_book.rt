@@ -4,6 +4,7 @@ ghost use Rattle.plan_schema.specs.Sound.{is_sound_entry};
 ghost use Rattle.walk_rules.specs.Cells.{Stands};
 ghost use Rattle.plan_walk.specs.Walk.{IsOpen, IsSolved, EndsSettled};
 ghost use Rattle.plan_core.specs.State.{meaning_of};
+ghost use Rattle.plan_core.specs.Holds.{HoldsFor};
 ghost use Rattle.plan_core.specs.Rounds.{HasRound, IsCutShort};
 ghost use Rattle.plan_core.specs.Reclaims.{IsReclaimed};
 ghost use Rattle.plan_book.specs.Books.{Work, state_by, point_by, IsSameStory, entry_for};
@@ -77,6 +78,10 @@ pub trait PlanBook: Storied<Entry = Entry, Basis = Ground> {
     /// How many entries there are.
     fn point(&self) -> u64
         ensures { result ≡ point_by Self.story Self.basis self.now };
+
+    /// Tells a caller what holds of each book: its history is legal, and its memo is right.
+    fn holds(&self)
+        ensures { HoldsFor (state_by Self.story Self.basis Self.work self.now) };
 
     /// How much was netted, reused and dropped.
     fn tally(&self) -> Tally

@@ -1,0 +1,103 @@
+//! The desks of a run: opened in order, served one after the other, and closed.
+ghost use Rattle.std.specs.Prelude.{◌≡◌, ◌≤◌, ◌+◌, ◌-◌, ◌++◌, ◌∷◌, [], map, length, option_map, List, OnOk, IfErr};
+ghost use Rattle.std.specs.VecDeque.{deque_len, deque_capacity};
+ghost use Rattle.response_program.specs.Names.{pair_of};
+ghost use Rattle.response_program.specs.Outcomes.{outcome_of};
+ghost use Rattle.response_program.specs.Views.{view};
+ghost use Rattle.response_program.specs.Desks.{DeskView, Opens, StopsOpening, AreGivenBack, AreDone};
+
+use crate::desk::{OpenDesk, close_desk, open_desk, serve_desk};
+use crate::ending::Ending;
+use crate::words::Pair;
+use byte_lines::{Shelf, Sink, Source};
+use plan_book::Book;
+use std::alloc::Global;
+use std::collections::VecDeque;
+
+/// Opens the files of pairs, in order, up to the first that can't be opened. There is room for the desks.
+pub fn open_desks<'a, H: Shelf>(
+    pairs: &[Pair<'a>],
+    shelf: &mut H,
+    waiting: &mut VecDeque<OpenDesk<'a, H::In, H::Out>>,
+) -> Result<(), Ending<'a>>
+    requires { length pairs.now ≤ deque_capacity waiting.old - deque_len waiting.old }
+    ensures ok { OnOk result ((opened : List DeskView)
+        × (waiting.new.items ≡ waiting.old.items ++ opened)
+        × Opens (view H.held H.open_faults H.read_faults H.write_faults shelf.old) (map pair_of pairs.now) opened
+        (view H.held H.open_faults H.read_faults H.write_faults shelf.new)) }
+    ensures err { IfErr result (λ ending. (opened : List DeskView)
+        × (waiting.new.items ≡ waiting.old.items ++ opened)
+        × StopsOpening (view H.held H.open_faults H.read_faults H.write_faults shelf.old) (map pair_of pairs.now) opened (outcome_of ending)
+        (view H.held H.open_faults H.read_faults H.write_faults shelf.new)) }
+{
+    let Some((pair, rest)) = pairs.split_first() else {
+        return Ok(());
+    };
+    match open_desk(pair, shelf) {
+        Ok(desk) => {
+            put_desk(desk, waiting);
+            open_desks(rest, shelf, waiting)
+        }
+        Err(ending) => Err(ending),
+    }
+}
+
+/// Puts a desk behind others, where there is room for it.
+fn put_desk<'a, S: Source, K: Sink>(
+    desk: OpenDesk<'a, S, K>,
+    waiting: &mut VecDeque<OpenDesk<'a, S, K>>,
+)
+    requires { deque_len waiting.old + 1 ≤ deque_capacity waiting.old }
+    ensures items { waiting.new.items ≡ waiting.old.items ++ desk.entry ∷ [] }
+    ensures len { deque_len waiting.new ≡ deque_len waiting.old + 1 }
+    ensures room { deque_capacity waiting.old ≤ deque_capacity waiting.new }
+{
+    match waiting.push_back(desk) {
+        Ok(()) => (),
+        Err(_) => unreachable!(),
+    }
+}
+
+/// Serves the sessions of desks one after the other, the first with this number, up to the first that doesn't end, and gives back all
+/// files. Answers why that one didn't end.
+pub fn serve_desks<'a, H: Shelf>(
+    alloc: Global,
+    session: u64,
+    book: &mut Book,
+    waiting: &mut VecDeque<OpenDesk<'a, H::In, H::Out>>,
+    shelf: &mut H,
+) -> Option<Ending<'a>>
+    requires some { 1 ≤ session }
+    requires most { session + length waiting.old.items ≤ 17 }
+    requires first { book.old.earlier ≡ [] }
+    ensures base { book.new.base ≡ book.old.base }
+    ensures first { book.new.earlier ≡ [] }
+    ensures none { deque_len waiting.new ≡ 0 }
+    ensures done { AreDone book.old.base session book.old.entries book.new.entries waiting.old.items
+        (option_map outcome_of result) (view H.held H.open_faults H.read_faults H.write_faults shelf.old)
+        (view H.held H.open_faults H.read_faults H.write_faults shelf.new) }
+{
+    let mut desk = waiting.pop_front()?;
+    let pair = desk.pair();
+    let served = serve_desk(alloc, session, book, &mut desk);
+    close_desk(desk, shelf);
+    match Ending::of_stop(&pair, session, served) {
+        Some(ending) => {
+            close_desks(waiting, shelf);
+            Some(ending)
+        }
+        None => serve_desks(alloc, session + 1, book, waiting, shelf),
+    }
+}
+
+/// Gives the files of desks back.
+pub fn close_desks<H: Shelf>(waiting: &mut VecDeque<OpenDesk<'_, H::In, H::Out>>, shelf: &mut H)
+    ensures none { deque_len waiting.new ≡ 0 }
+    ensures given { AreGivenBack (view H.held H.open_faults H.read_faults H.write_faults shelf.old) waiting.old.items
+        (view H.held H.open_faults H.read_faults H.write_faults shelf.new) }
+{
+    if let Some(desk) = waiting.pop_front() {
+        close_desk(desk, shelf);
+        close_desks(waiting, shelf);
+    }
+}

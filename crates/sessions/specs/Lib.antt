@@ -1,0 +1,3 @@
+pub mod Ends
+pub mod Serving
+pub use Rattle.session_rules.specs.Sessions

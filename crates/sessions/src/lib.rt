@@ -1,0 +1,6 @@
+//! Sessions.
+#![tactic(auto)]
+
+mod serve;
+
+pub use serve::serve_alone;

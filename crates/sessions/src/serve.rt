@@ -1,0 +1,37 @@
+//! Sessions.
+ghost use Rattle.std.specs.Prelude.{◌≡◌, ◌≢◌, ◌≤◌, ℕ, List, Some};
+ghost use Rattle.byte_lines.specs.declared.rounds.Served.TheVariants as ends;
+ghost use Rattle.plan_book.specs.Books.{history};
+ghost use Rattle.request_loop.specs.Handed.{Ending};
+ghost use Rattle.sessions.specs.Ends.{BookEnding};
+ghost use Rattle.sessions.specs.Serving.{setting, Serves};
+
+use byte_lines::{Served, Sink, Source};
+use plan_book::Ground;
+use plan_schema::Entry;
+use turn_table::Storied;
+use std::alloc::Global;
+
+/// Serves one session over a book, which waits for nobody: reads its requests to the end or to QUIT, and writes a reply to each. Where
+/// nothing may be changed, each change is answered `read-only`.
+pub fn serve_alone<B: Storied<Entry = Entry, Basis = Ground>, S: Source, K: Sink>(
+    alloc: Global,
+    book: &mut B,
+    session: u64,
+    may_change: bool,
+    source: &mut S,
+    sink: &mut K,
+) -> Served
+    requires some { 1 ≤ session }
+    requires most { session ≤ 16 }
+    ensures cause { Ending S.faults S.label K.faults K.label source.old source.new sink.old sink.new
+        result }
+    ensures book { BookEnding B.faults B.basis book.old book.new result }
+    ensures worn { result ≢ ends.Worn }
+    ensures served { (input : List ℕ) → S.left source.old ≡ Some input
+        → Serves (setting may_change session (B.basis book.old) (B.story book.old))
+        (history (B.basis book.new) (B.story book.new)) input (K.taken sink.old) (K.taken sink.new)
+        result }
+{
+    Served::Memory
+}

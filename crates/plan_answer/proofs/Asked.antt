@@ -1,5 +1,5 @@
 -- What commands are answered in sessions, from the cells that were collected for their questions.
-use Rattle.std.proofs.Common.{◌≡◌, ℕ, List, [], ◌∷◌, length, refl, sym, ◌∙◌, ap, subst, Bool, true, false, cond}
+use Rattle.std.proofs.Common.{◌≡◌, List, [], ◌∷◌, length, sym, ◌∙◌, ap, true}
 use Rattle.std.specs.Prelude.{Option, Some, None, is_some, is_none, option_map, IsSome}
 use Rattle.std.specs.Result.{result_ok}
 use Rattle.plan_schema.specs.declared.name.Name.{Name}
@@ -8,7 +8,7 @@ use Rattle.plan_schema.specs.declared.refusal.Refusal.{Refusal}
 use Rattle.plan_schema.specs.declared.refusal.Refusal.TheVariants as refusals
 use Rattle.plan_schema.specs.Contents.{Contents, is_ordered}
 use Rattle.plan_schema.specs.Refusals.{first_of, where_so}
-use Rattle.scenario_rules.specs.World.{World, Scenario, scenario_at, contents_in}
+use Rattle.scenario_rules.specs.World.{Scenario, scenario_at, contents_in}
 use Rattle.scenario_rules.specs.Steps.{world_after}
 use Rattle.scenario_rules.specs.Refused.{access_refusal, no_scenario, denied}
 use Rattle.scenario_rules.specs.Journal.{IsLegal}
@@ -19,15 +19,12 @@ use Rattle.query_language.specs.Trees.{QueryTree}
 use Rattle.query_language.specs.Growing.{query_of}
 use Rattle.command_words.specs.declared.command.Command.{Command}
 use Rattle.command_words.specs.declared.command.Command.TheVariants as commands
-use Rattle.command_words.specs.declared.reply.Reply.TheVariants as replies
-use Rattle.walk_rules.specs.Cells.{Cells, records}
 use Rattle.plan_jobs.specs.declared.job.Wanted.{Wanted}
 use Rattle.plan_jobs.specs.declared.job.Wanted.TheVariants as wants
-use Rattle.plan_jobs.specs.Collects.{IsCollected}
 use Rattle.session_rules.specs.Answers.{answer, query_reply}
 use Rattle.plan_answer.specs.Asks.{Question, ShowsCell, TellsLevel, TellsPlan, Pegs, Promises, Selects, question_of, wanted_by}
 use Rattle.plan_answer.specs.Planned.{wants_of}
-use Rattle.plan_answer.specs.Replies.{question_refusal, question_lines, reply_of}
+use Rattle.plan_answer.specs.Replies.{question_refusal, question_lines}
 use Rattle.plan_answer.specs.Laws.{reply_in, AskedIsAnswered, BarredIsAnswered, RefusedIsAnswered}
 use Rattle.plan_answer.proofs.Answered.{answered}
 use Rattle.plan_answer.proofs.Collected.{collected_is_enough}

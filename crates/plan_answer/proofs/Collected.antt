@@ -1,5 +1,5 @@
 -- Questions are answered from collected cells as from all contents of their scenario.
-use Rattle.std.proofs.Common.{◌≡◌, ℕ, ◌+◌, ◌-◌, inl, inr, List, [], ◌∷◌, map, refl, sym, ◌∙◌, ap, subst, Bool, true, false, cond, ◌||◌}
+use Rattle.std.proofs.Common.{◌≡◌, ℕ, ◌+◌, ◌-◌, inl, inr, List, [], ◌∷◌, map, refl, sym, ◌∙◌, ap, subst, true, cond, ◌||◌}
 use Rattle.std.specs.Prelude.{Option, Some, None, filter, nat_lt, nat_le}
 use Rattle.std.specs.List.{list_all, range_with_len}
 use Rattle.plan_schema.specs.declared.name.Name.{Name}
@@ -11,13 +11,13 @@ use Rattle.plan_schema.specs.Contents.{Contents, is_ordered, cell_rows}
 use Rattle.planning_rules.specs.Bills.{parents, level}
 use Rattle.planning_rules.specs.Days.{start_of, days_of}
 use Rattle.planning_rules.specs.Pegs.{pegs, no_day}
-use Rattle.planning_rules.specs.Plan.{Known, plan, released}
+use Rattle.planning_rules.specs.Plan.{plan, released}
 use Rattle.planning_rules.specs.Refused.{in_reach, level_refusal, plan_refusal}
 use Rattle.planning_rules.proofs.Membership.{IsIn}
 use Rattle.query_language.specs.declared.column.Column.{Column}
 use Rattle.query_language.specs.Trees.{CondTree, QueryTree}
 use Rattle.query_rules.specs.Lines.{select_line, select_lines}
-use Rattle.query_rules.specs.Queries.{asks_for_plan, column_value, is_selected, parts_of, query_refusal}
+use Rattle.query_rules.specs.Queries.{asks_for_plan, column_value, is_selected, parts_of}
 use Rattle.row_text.specs.Spelling.{row_text}
 use Rattle.command_words.specs.declared.reply.Reply.TheVariants as replies
 use Rattle.walk_rules.specs.Cells.{Cells, records}
@@ -28,7 +28,7 @@ use Rattle.pegging.specs.Pegs.{pegs_by}
 use Rattle.pegging.proofs.Local.{pegs_own}
 use Rattle.plan_jobs.specs.declared.job.Wanted.{Wanted}
 use Rattle.plan_jobs.specs.declared.job.Wanted.TheVariants as wants
-use Rattle.plan_jobs.specs.Collects.{IsCollected, is_wanted, collected}
+use Rattle.plan_jobs.specs.Collects.{IsCollected, is_wanted}
 use Rattle.plan_jobs.specs.Jobs.{IsJob, asked_by, wants_plan}
 use Rattle.plan_jobs.specs.Laws.{is_among, PlanAlike}
 use Rattle.plan_jobs.proofs.Alike.{all_in_list}

@@ -1,5 +1,5 @@
 -- The parts of collected cells are those of the contents, in the same order.
-use Rattle.std.proofs.Common.{◌≡◌, inl, inr, List, [], ◌∷◌, ◌++◌, map, refl, sym, ◌∙◌, ap, subst, true, cond, ◌&&◌}
+use Rattle.std.proofs.Common.{◌≡◌, List, [], ◌∷◌, ◌++◌, map, refl, sym, ◌∙◌, ap, subst, true, cond, ◌&&◌}
 use Rattle.std.proofs.lemmas.Bool.{and_parts}
 use Rattle.std.proofs.lemmas.List.Elements.{filter_map-append}
 use Rattle.std.proofs.lemmas.Map.Lookups.{exact_bytes}
@@ -23,7 +23,6 @@ use Rattle.plan_schema.specs.Key.{name_cmp, key_cmp, cell_of}
 use Rattle.plan_schema.specs.Cell.{cell_cmp, cell_eq}
 use Rattle.plan_schema.specs.Contents.{Contents, record_at, is_ordered, cell_rows}
 use Rattle.query_rules.specs.Queries.{part_in, parts_of}
-use Rattle.record_versions.specs.declared.version.VersionId.{VersionId}
 use Rattle.record_versions.proofs.Same.{same_lists}
 use Rattle.version_rules.proofs.CellRows.{rows_ordered}
 use Rattle.walk_rules.specs.Cells.{Cells, records, are_own_rows, are_own_cells}

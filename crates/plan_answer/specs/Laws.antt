@@ -12,6 +12,7 @@ use Rattle.scenario_rules.specs.Journal.{IsLegal}
 use Rattle.scenario_rules.specs.Whole.{AreWholeContents, AreWithinLimits}
 use Rattle.command_words.specs.declared.command.Command.{Command}
 use Rattle.command_words.specs.declared.reply.Reply.{Reply}
+use Rattle.command_words.specs.Spelling.{is_sound_command}
 use Rattle.command_words.specs.declared.reply.Reply.TheVariants as replies
 use Rattle.walk_rules.specs.Cells.{Cells, records}
 use Rattle.walk_names.specs.declared.trouble.Trouble.TheVariants.{Refused}
@@ -36,6 +37,10 @@ abbrev pub QuestionIsAnswered : Type 0
 QuestionIsAnswered = (base : Contents) (history : List Entry) (user : Name) (command : Command)
     → is_some (wanted_by command) ≡ true
     → answer base history user command ≡ reply_in (world_after base history) (length history) user (wanted_by command) (question_of command)
+
+-- a command that can be spelled is a question exactly where it wants something of a scenario
+abbrev pub AsksWhereItWants : Type 0
+AsksWhereItWants = (command : Command) → is_sound_command command ≡ true → is_some (question_of command) ≡ is_some (wanted_by command)
 
 -- from the cells that were collected for a question from contents in key order it is answered as from all of these
 abbrev pub CollectedIsEnough : Type 0

@@ -1,9 +1,11 @@
 //! What holds of questions: each law is the contract of a function that does nothing.
-ghost use Rattle.plan_answer.specs.Laws.{AskedIsAnswered, BarredIsAnswered, CollectedIsEnough, QuestionIsAnswered, RefusedIsAnswered};
+ghost use Rattle.plan_answer.specs.Laws.{AskedIsAnswered, AsksWhereItWants, BarredIsAnswered, CollectedIsEnough, QuestionIsAnswered, RefusedIsAnswered};
 
-/// What a question is answered over the contents of its scenario is what the command is answered in a session.
+/// A command is a question where it wants something of a scenario; and what a question is answered over the contents of its scenario is
+/// what the command is answered in a session.
 pub fn questions_are_answered()
-    ensures { QuestionIsAnswered }
+    ensures asks { AsksWhereItWants }
+    ensures answered { QuestionIsAnswered }
 {}
 
 /// The cells that were collected for a question are enough for its answer: it is that from all contents of the scenario.

@@ -3,6 +3,7 @@ ghost use Rattle.std.specs.Prelude.{◌≡◌};
 ghost use Rattle.plan_book.specs.declared.fault.BookFault.TheVariants as faults;
 
 use plan_schema::Refusal;
+use plan_walk::Trouble;
 use std::alloc::AllocError;
 
 /// Why a call of a book isn't answered.
@@ -21,5 +22,18 @@ impl From<AllocError> for BookFault {
 
     fn from(_: AllocError) -> BookFault {
         BookFault::Memory
+    }
+}
+
+impl From<Trouble> for BookFault {
+    ghost use Rattle.plan_book.specs.Faults.{fault_for};
+
+    ghost from_gives = { λ trouble fault. fault ≡ fault_for trouble };
+
+    fn from(trouble: Trouble) -> BookFault {
+        match trouble {
+            Trouble::Refused(point, refusal) => BookFault::Refused(point, refusal),
+            Trouble::Memory => BookFault::Memory,
+        }
     }
 }

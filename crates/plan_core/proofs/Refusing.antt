@@ -35,7 +35,7 @@ full_is h change t point carried count is point_is carried_is count_is =
     sym (ap (λ b. where_so b (refusals.Full rooms.Journal)) is ∙ λ i. where_so (nat_le ENTRY_LIMIT (point_is i) || nat_lt CARRIED_LIMIT (carried_is i + count_is i)) (refusals.Full rooms.Journal))
 
 module _ (base : Contents) (earlier entries : List Entry) (m : Memo MemoKey Known) (tally : Tally) (forest : Grown) (before carried : ℕ) (seen : State)
-  (core : IsCore (state_of base earlier entries m tally) forest before carried) (view : state_of base earlier entries m tally ≡ seen) (user : Name) (change : Change) where
+    (core : IsCore (state_of base earlier entries m tally) forest before carried) (view : state_of base earlier entries m tally ≡ seen) (user : Name) (change : Change) where
   -- the scenarios' refusal comes first, and then the journal's
   pub refusal_is : (r : Option Refusal) → r ≡ scenario_refusal forest.world user change → refusal_of seen user change ≡ first_of (r ∷ full_journal (history seen) change ∷ [])
   unfolding refusal_of

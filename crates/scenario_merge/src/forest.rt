@@ -424,10 +424,7 @@ fn row_at(scenarios: &BTreeMap<Name, Held>, place: usize) -> Option<TreeRow>
 }
 
 // The rows of all scenarios, in the order of names.
-fn all_rows(
-    alloc: Global,
-    scenarios: &BTreeMap<Name, Held>,
-) -> Result<Vec<TreeRow>, AllocError>
+fn all_rows(alloc: Global, scenarios: &BTreeMap<Name, Held>) -> Result<Vec<TreeRow>, AllocError>
     ensures { (m : Meaning) → IfOk result
         (λ rows. rows.items ≡ map tree_row (world_by m scenarios.now.entries)) }
 {

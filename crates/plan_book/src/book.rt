@@ -1,0 +1,128 @@
+//! A book in memory.
+ghost use Rattle.std.specs.Prelude.{◌≡◌, ◌≤◌, IfOk};
+ghost use Rattle.scenario_rules.specs.Whole.{AreWholeContents, AreWithinLimits};
+ghost use Rattle.plan_core.specs.State.{begin_state};
+ghost use Rattle.plan_book.specs.Faults.{book_answer};
+
+use crate::fault::BookFault;
+use crate::ground::Ground;
+use crate::plan_book::PlanBook;
+use command_words::Lines;
+use plan_core::Core;
+use plan_jobs::{Job, Wanted};
+use plan_journal::Journal;
+use plan_schema::{Change, Contents, Entry, Name};
+use plan_walk::{Round, Solved, Tally, Trouble, Walk};
+use std::alloc::{AllocError, Global};
+use std::marker::Model;
+use turn_table::Storied;
+
+/// A book that keeps its entries in memory. Nothing fails in it but for want of memory.
+#[derive(Drop)]
+pub struct Book {
+    core: Core,
+}
+
+impl Model for Book {
+    ghost use Rattle.plan_core.specs.State.{State};
+
+    ghost Value = { State };
+
+    ghost view = { λ book. book.core };
+}
+
+impl Book {
+    /// A book with these records as the root's and no entries, and an empty memo for so many pairs.
+    pub fn begin(alloc: Global, contents: Contents, most: u32) -> Result<Book, AllocError>
+        requires whole { AreWholeContents contents }
+        requires limits { AreWithinLimits contents }
+        requires some { 1 ≤ most }
+        requires few { most ≤ 65_536 }
+        ensures { IfOk result (λ book. book ≡ begin_state contents most) }
+    {
+        let core = Core::begin(alloc, contents, most)?;
+        Ok(Book { core })
+    }
+
+    /// The entries that were made since the book began.
+    pub fn journal(&self) -> &Journal
+        ensures { result.now.entries ≡ self.now.entries }
+    {
+        self.core.journal()
+    }
+}
+
+impl Storied for Book {
+    ghost use Rattle.plan_book.specs.Books.{story_of};
+
+    type Entry = Entry;
+
+    type Basis = Ground;
+
+    ghost story = { λ book. story_of book.entries };
+
+    ghost faults = { λ _. 0 };
+
+    ghost basis = { λ book. record { base = book.base; earlier = book.earlier } };
+
+    fn story_len(&self) -> u64 {
+        self.core.journal().len() as u64
+    }
+}
+
+impl PlanBook for Book {
+    ghost work = { λ book. record { pairs = book.pairs; most = book.most; tally = book.tally } };
+
+    fn change(
+        &mut self,
+        session: u64,
+        line: u64,
+        user: &Name,
+        change: Change,
+    ) -> Result<u64, BookFault> {
+        let user = *user;
+        answer_of(
+            self.core.change(Entry {
+                session,
+                line,
+                user,
+                change,
+            }),
+        )
+    }
+
+    fn ask(&self, user: &Name, scenario: &Name, wanted: Wanted) -> Result<Job, BookFault> {
+        let job = self.core.ask(user, scenario, wanted)?;
+        Ok(job)
+    }
+
+    fn tree(&self, user: &Name) -> Result<(u64, Lines), AllocError> {
+        self.core.tree(user)
+    }
+
+    fn round(&mut self, walk: &mut Walk, solved: Solved) -> Result<Round, AllocError> {
+        self.core.round(walk, solved)
+    }
+
+    fn reclaim(&mut self) -> Result<u64, AllocError> {
+        self.core.reclaim()
+    }
+
+    fn point(&self) -> u64 {
+        self.core.point()
+    }
+
+    fn tally(&self) -> Tally {
+        self.core.tally()
+    }
+}
+
+/// What a book answers to a change where its core answers so.
+fn answer_of(answer: Result<u64, Trouble>) -> Result<u64, BookFault>
+    ensures { result ≡ book_answer answer }
+{
+    match answer {
+        Ok(number) => Ok(number),
+        Err(trouble) => Err(BookFault::from(trouble)),
+    }
+}

@@ -6,6 +6,7 @@ ghost use Rattle.record_versions.specs.Versions.{has_id};
 ghost use Rattle.plan_core.specs.Keys.{key_ids};
 ghost use Rattle.plan_core.specs.State.{begin_state, point_of, added};
 ghost use Rattle.plan_core.specs.Reclaims.{IsReclaimed};
+ghost use Rattle.plan_core.specs.Holds.{HoldsFor};
 
 use crate::began::Began;
 use crate::keys::stands_on;
@@ -96,6 +97,13 @@ impl Core {
         ensures { result ≡ self.now.tally }
     {
         self.tally
+    }
+
+    /// Tells a caller what holds of each core.
+    pub fn holds(&self)
+        ensures { HoldsFor self.now }
+    {
+        let _before = self.before;
     }
 
     /// Adds work to the tally.

@@ -1,23 +1,29 @@
-use Rattle.std.proofs.Common.{◌≡◌, ℕ, List, [], ◌++◌, Option, Some, None, refl, sym, ap, append-nil, arith}
-use Rattle.plan_schema.specs.Outside.{extended}
+use Rattle.std.proofs.Common.{sym, subst}
+use Rattle.plan_book.specs.Books.{history}
+use Rattle.request_loop.specs.Serving as loop
+use Rattle.sessions.specs.Serving.{setting, Serves}
+use Rattle.sessions.proofs.FromChain.{gives}
+use Rattle.sessions.proofs.Ended.{stops, book_ended, never_worn, serves_book}
 use Rattle.sessions.proofs.serve.serve_alone.Goals as goal
 
-same_text : (taken : Option (List ℕ)) → taken ≡ extended taken []
-same_text None = refl
-same_text (Some bytes) = ap Some (sym (append-nil bytes))
-
-pub returns-clause-served : goal.returns-clause-served
-returns-clause-served g c input is =
+pub returns : goal.returns
+returns g c =
+    let story = g.B.Storied.story in
+    let faults = g.B.Storied.faults in
+    let basis = g.B.Storied.basis in
+    let terms = c.new-alone.result.terms in
+    let old = c.args.book.now in
+    let new = c.serve_requests.new.state in
+    let before = g.K.Sink.taken c.args.sink.now in
+    let after = g.K.Sink.taken c.serve_requests.new.sink in
+    let served = c.serve_requests.result in
+    let h = c.serve_requests.ensures.served in
     record {
-      whole = λ count is. cc;
-      short = record {
-        requests = 0;
-        whole = [];
-        last = [];
-        one = omega arith;
-        answered = record { legal = tt; entered = sym (append-nil _); numbered = refl; pinned = tt };
-        bytes = 0;
-        text = same_text _;
-      };
-      limit = λ is. cc;
+      cause = c.serve_requests.ensures.cause;
+      book = book_ended story faults basis terms old new h.input before after served h.serves.short;
+      worn = never_worn story faults basis terms old new h.input before after served h.serves.short;
+      served = λ input told.
+          subst (λ t. Serves (setting t.may_change t.session (basis old) (story old)) (history (basis new) (story new)) input before after served) c.new-alone.ensures
+          (serves_book story faults basis terms old new input before after served
+          (subst (λ i. loop.Serves (gives story faults basis terms) (stops story faults basis terms) old new i before after served) (sym (h.told input told)) h.serves));
     }

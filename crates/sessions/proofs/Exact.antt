@@ -1,0 +1,108 @@
+-- Answers after all entries.
+use Rattle.std.proofs.Common.{◌≡◌, ℕ, ◌≤◌, List, [], ◌∷◌, length, Bool, true, false, Option, Some, None, refl, sym, ap, subst, ◌∙◌, arith, ◌⊎◌, inl, inr}
+use Rattle.std.specs.Prelude.{IfSome}
+use Rattle.std.specs.Result.{result_ok}
+use Rattle.std.proofs.Math.Seq.{take-length}
+use Rattle.plan_schema.specs.declared.name.Name.{Name}
+use Rattle.plan_schema.specs.declared.refusal.Refusal.{Refusal}
+use Rattle.plan_schema.specs.declared.change.Entry.{Entry}
+use Rattle.plan_schema.specs.Contents.{Contents}
+use Rattle.query_language.specs.Trees.{QueryTree}
+use Rattle.query_language.specs.Growing.{query_of}
+use Rattle.scenario_rules.specs.World.{World, contents_in}
+use Rattle.scenario_rules.specs.Steps.{world_after}
+use Rattle.command_words.specs.declared.command.Command.{Command}
+use Rattle.command_words.specs.declared.command.Command.TheVariants as commands
+use Rattle.command_words.specs.declared.reply.Reply.{Reply}
+use Rattle.command_words.specs.declared.reply.Reply.TheVariants as replies
+use Rattle.session_rules.specs.Answers.{answer, trees, query_reply, select_answer}
+use Rattle.session_rules.specs.Sessions.{IsAnswer, IsCommandReply, needs_no_memory}
+use Rattle.sessions.specs.Answered.{IsAnswered}
+
+-- a reply that prints this point
+abbrev Prints : ℕ → Reply → Type 0
+Prints n (replies.Ok point) = point ≡ n
+Prints n (replies.Rows point lines) = point ≡ n
+Prints n (replies.No point refusal) = point ≡ n
+Prints n (replies.Bad bad) = ⊥
+Prints n replies.Mem = ⊥
+
+query_prints : (n : ℕ) (refusal : Option Refusal) (lines : List (List ℕ)) → Prints n (query_reply n refusal lines)
+query_prints n None lines = refl
+query_prints n (Some refusal) lines = refl
+
+select_prints : (world : World) (n : ℕ) (user scenario : Name) (c : Contents) (query : Option QueryTree) → IfSome (select_answer world n user scenario c query) (Prints n)
+select_prints world n user scenario c None = tt
+select_prints world n user scenario c (Some query) = query_prints n _ _
+
+-- each answer prints the number of entries
+answer_prints : (base : Contents) (entries : List Entry) (user : Name) (command : Command) → IfSome (answer base entries user command) (Prints (length entries))
+unfolding answer
+answer_prints base entries user (commands.Hello name) = refl
+answer_prints base entries user commands.Point = refl
+answer_prints base entries user commands.Reclaim = refl
+answer_prints base entries user commands.Quit = refl
+answer_prints base entries user commands.Tree = refl
+answer_prints base entries user (commands.Show scenario cell) = query_prints (length entries) _ _
+answer_prints base entries user (commands.Level scenario part) = query_prints (length entries) _ _
+answer_prints base entries user (commands.Plan scenario part) = query_prints (length entries) _ _
+answer_prints base entries user (commands.Peg scenario part day) = query_prints (length entries) _ _
+answer_prints base entries user (commands.Atp scenario part) = query_prints (length entries) _ _
+answer_prints base entries user (commands.Select scenario text) =
+    let world = world_after base entries in
+    select_prints world (length entries) user scenario (contents_in world scenario) (result_ok (query_of text))
+answer_prints base entries user _ = tt
+
+module _ (base : Contents) (entries : List Entry) (user : Name) (command : Command) where
+  -- so the answer is a legal reply behind all entries
+  pub exact_answered : (reply : Reply) → answer base entries user command ≡ Some reply → IsAnswered base entries user command reply
+  exact_answered reply is may_change session floor last before = by_reply reply is (subst (λ o. IfSome o (Prints (length entries))) is (answer_prints base entries user command))
+    where
+      at : (n : ℕ) → n ≡ length entries → (made : Reply) → answer base entries user command ≡ Some made → IsAnswer may_change base entries session floor last user (λ h. answer base h user command) n made
+      at n same made right =
+          subst (λ m. IsAnswer may_change base entries session floor last user (λ h. answer base h user command) m made) (sym same)
+          (record {
+            in_order = record { later = before; within = omega arith };
+            right = ap (λ h. answer base h user command) (take-length entries) ∙ right;
+          })
+
+      by_reply : (made : Reply) → answer base entries user command ≡ Some made → Prints (length entries) made → IsCommandReply may_change base entries session floor last user command made
+      by_reply (replies.Ok point) right same = at point same (replies.Ok point) right
+      by_reply (replies.Rows point lines) right same = at point same (replies.Rows point lines) right
+      by_reply (replies.No point refusal) right same = at point same (replies.No point refusal) right
+      by_reply (replies.Bad bad) right same = absurd same
+      by_reply replies.Mem right same = absurd same
+
+-- a greeting, the point and the end
+no_memory_answer : (base : Contents) (entries : List Entry) (user : Name) (command : Command) → needs_no_memory command ≡ true → answer base entries user command ≡ Some (replies.Ok (length entries))
+unfolding answer
+no_memory_answer base entries user (commands.Hello name) none = refl
+no_memory_answer base entries user commands.Point none = refl
+no_memory_answer base entries user commands.Quit none = refl
+no_memory_answer base entries user _ none = absurd (let never : ⊥ = cc in never)
+
+pub point_answered : (base : Contents) (entries : List Entry) (user : Name) (command : Command) (point : ℕ) → needs_no_memory command ≡ true → point ≡ length entries → IsAnswered base entries user command (replies.Ok point)
+point_answered base entries user command point none is =
+    exact_answered base entries user command (replies.Ok point) (no_memory_answer base entries user command none ∙ ap (λ n. Some (replies.Ok n)) (sym is))
+
+-- answers of the calls of a book
+pub reclaim_exact : (base : Contents) (entries : List Entry) (user : Name) (point : ℕ) → point ≡ length entries → answer base entries user commands.Reclaim ≡ Some (replies.Ok point)
+unfolding answer
+reclaim_exact base entries user point is = ap (λ n. Some (replies.Ok n)) (sym is)
+
+pub tree_exact : (base : Contents) (entries : List Entry) (user : Name) (point : ℕ) (lines : List (List ℕ)) → point ≡ length entries → lines ≡ trees (world_after base entries) user
+    → answer base entries user commands.Tree ≡ Some (replies.Rows point lines)
+unfolding answer
+tree_exact base entries user point lines at is = λ i. Some (replies.Rows (sym at i) (sym is i))
+
+pub no_memory_for : (command : Command) → ((name : Name) × (command ≡ commands.Hello name)) ⊎ ((command ≡ commands.Point) ⊎ (command ≡ commands.Quit)) → needs_no_memory command ≡ true
+no_memory_for command (inl hello) = ap needs_no_memory hello.1
+no_memory_for command (inr (inl point)) = ap needs_no_memory point
+no_memory_for command (inr (inr quit)) = ap needs_no_memory quit
+
+-- a command for which there may be no memory
+pub may_want : (command : Command) → ((name : Name) → command ≡ commands.Hello name → ⊥) → (command ≡ commands.Point → ⊥) → (command ≡ commands.Quit → ⊥) → needs_no_memory command ≡ false
+may_want (commands.Hello name) hello point quit = absurd (hello name refl)
+may_want commands.Point hello point quit = absurd (point refl)
+may_want commands.Quit hello point quit = absurd (quit refl)
+may_want _ hello point quit = refl

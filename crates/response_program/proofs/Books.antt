@@ -5,16 +5,14 @@ use Rattle.plan_schema.specs.declared.change.Entry.{Entry}
 use Rattle.plan_core.specs.State.{State}
 use Rattle.plan_book.specs.declared.ground.Ground.{Ground}
 use Rattle.plan_book.specs.Books.{history, story_of, entries_in}
+use Rattle.plan_book.proofs.Told.{entries_back}
+use Rattle.scenario_rules.specs.Journal.{IsLegal}
 use Rattle.sessions.specs.Serving.{Serves, setting}
 use Rattle.response_program.specs.Desks.{session_of}
 
 -- what a book goes on from
 abbrev pub ground_of : State → Ground
 ground_of book = record { base = book.base; earlier = book.earlier }
-
-entries_back : (entries : List Entry) → entries_in (story_of entries) ≡ entries
-entries_back [] = refl
-entries_back (entry ∷ entries) = ap (λ more. entry ∷ more) (entries_back entries)
 
 -- its history is its own entries
 own : (book : State) → book.earlier ≡ [] → history (ground_of book) (story_of book.entries) ≡ book.entries
@@ -34,3 +32,7 @@ pub book_serves : (old new : State) (session : ℕ) (input : List ℕ) (before a
 book_serves old new session input before after served none is h =
     subst (λ entries. Serves (session_of old.base session old.entries) entries input before after served) (own new (book_first old new is none))
     (subst (λ earlier. Serves (session_of old.base session earlier) (history (ground_of new) (story_of new.entries)) input before after served) (own old none) h)
+
+-- its history is legal
+pub own_legal : (book : State) → book.earlier ≡ [] → IsLegal book.base (history (ground_of book) (story_of book.entries)) → IsLegal book.base book.entries
+own_legal book none h = subst (IsLegal book.base) (own book none) h

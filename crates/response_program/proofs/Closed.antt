@@ -1,7 +1,7 @@
 -- What giving the files of desks back leaves.
-use Rattle.std.proofs.Common.{◌≡◌, ◌≢◌, ℕ, ◌≤◌, List, [], ◌∷◌, ◌++◌, refl, sym, subst, ◌∙◌, arith}
+use Rattle.std.proofs.Common.{◌≡◌, ◌≢◌, ℕ, ◌≤◌, List, [], ◌∷◌, ◌++◌, refl, sym, ap, subst, ◌∙◌, arith, inl, inr, Some}
 use Rattle.std.specs.List.{AllByRecursion}
-use Rattle.plan_schema.specs.Outside.{Rose, Counted}
+use Rattle.plan_schema.specs.Outside.{Rose, Counted, IsKeptOrEmpty}
 use Rattle.plan_schema.proofs.Writes.{rose_later, rose_after}
 use Rattle.response_program.specs.Names.{Pair, AreOutputsApart}
 use Rattle.response_program.specs.Views.{View, NoneFell}
@@ -9,6 +9,7 @@ use Rattle.response_program.specs.Outcomes.{Outcome, HasCause}
 use Rattle.response_program.specs.Desks as desks
 use Rattle.response_program.specs.Desks.{DeskView, IsGivenBack, AreGivenBack}
 use Rattle.response_program.proofs.Chains.{same_fell, both_fell, same_or_other, stays_later, counted_rose, cause_later, cause_after}
+use Rattle.response_program.proofs.Named.{by_name, kept_then}
 use Rattle.response_program.proofs.Served as faults
 use Rattle.response_program.proofs.Served.{AreNamed, IsFaulty}
 
@@ -71,3 +72,10 @@ closed_cause _ _ _ _ given (faults.long ds session) = tt
 closed_cause _ _ _ _ given (faults.memory ds) = tt
 closed_cause _ _ _ _ (desks.more old between new desk ds h rest) (faults.later _ _ outcome fault) =
     cause_after old between new outcome (given_fell old between desk h) (closed_cause between new ds outcome rest fault)
+
+-- where desks took nothing, each name is kept or made empty
+pub closed_kept : (old new : View) (ds : List DeskView) → AreGivenBack old ds new → AllByRecursion (λ (desk : DeskView). desk.taken ≡ Some []) ds → (name : List ℕ) → IsKeptOrEmpty (old.held name) (new.held name)
+closed_kept _ _ _ (desks.none shelf) empty name = inl refl
+closed_kept _ _ _ (desks.more old between new desk ds h rest) empty name =
+    kept_then (by_name name desk.pair.output (λ same. inr (ap between.held same ∙ h.output ∙ empty.0)) (λ apart. inl (h.others name apart)))
+    (closed_kept between new ds rest empty.1 name)

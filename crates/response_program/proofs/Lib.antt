@@ -10,4 +10,6 @@ pub mod Rounds
 pub mod Endings
 pub mod Headline
 pub mod Bases
+pub mod Wholes
 pub mod Books
+pub mod Overs

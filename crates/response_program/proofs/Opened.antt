@@ -6,6 +6,7 @@ use Rattle.plan_schema.specs.Outside.{IsKeptOrEmpty}
 use Rattle.response_program.specs.Names.{Pair, IsNoInput, AreOutputsApart}
 use Rattle.response_program.specs.Views.{View, NoneFell}
 use Rattle.response_program.specs.Outcomes.{Outcome, NoMemory, HasCause}
+use Rattle.response_program.specs.Runs.{Tells}
 use Rattle.response_program.specs.Desks as desks
 use Rattle.response_program.specs.Desks.{DeskView, IsMade, IsOpened, IsUnopened, IsOpening, Opens, StopsOpening}
 use Rattle.response_program.proofs.Chains.{same_fell, both_fell, cause_after}
@@ -93,3 +94,24 @@ opens_fresh _ _ _ _ (desks.more old between new pair desk pairs ds h rest) clear
   record { pair_is = h.pair_is; input = h.input; no_reads = h.no_reads; output = h.output; no_writes = h.no_writes },
   fresh_before old between pair h.made pairs ds clear.0.1 (opens_fresh between new pairs ds rest (less_inputs pair pairs pairs clear.1)),
 )
+
+-- what desks took is nothing, also where not all could be opened
+abbrev pub AreEmpty : List DeskView → Type 0
+AreEmpty ds = AllByRecursion (λ (desk : DeskView). desk.taken ≡ Some []) ds
+
+pub stops_empty : (old new : View) (pairs : List Pair) (ds : List DeskView) (outcome : Outcome) → StopsOpening old pairs ds outcome new → Tells old → AreEmpty ds
+stops_empty _ _ _ _ _ (desks.no_room shelf pairs) tells = tt
+stops_empty _ _ _ _ _ (desks.here old new pair pairs outcome h) tells = tt
+stops_empty _ _ _ _ _ (desks.later old between new pair desk pairs ds outcome h rest) tells =
+    (
+      h.output (tells pair.output),
+      stops_empty between new pairs ds outcome rest (λ name. some_kept (tells name) (all_kept pair.output old.held between.held h.made.output h.made.others name)),
+    )
+
+-- the desks are those of the first pairs
+pub stops_named : (P : Pair → Type 0) (old new : View) (pairs : List Pair) (ds : List DeskView) (outcome : Outcome) → StopsOpening old pairs ds outcome new → AllByRecursion P pairs
+    → AllByRecursion (λ (desk : DeskView). P desk.pair) ds
+stops_named P _ _ _ _ _ (desks.no_room shelf pairs) h = tt
+stops_named P _ _ _ _ _ (desks.here old new pair pairs outcome stops) h = tt
+stops_named P _ _ _ _ _ (desks.later old between new pair desk pairs ds outcome opened rest) h =
+    (subst P (sym opened.pair_is) h.0, stops_named P between new pairs ds outcome rest h.1)

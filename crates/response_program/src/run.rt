@@ -14,7 +14,7 @@ use crate::desks::{close_desks, open_desks, serve_desks};
 use crate::ending::{Ending, Totals};
 use crate::words::{RunWords, WordFault, read_words};
 use byte_lines::{Shelf, ShelfFault, SinkFault, write_all};
-use plan_book::Book;
+use plan_book::{Book, PlanBook};
 use plan_import::import;
 use plan_journal::write_journal;
 use plan_schema::Contents;
@@ -154,14 +154,15 @@ fn run_over<'a, H: Shelf>(
             ending
         }
         Ok(stop) => {
-            let written = write_journal(book.journal(), &mut journal);
+            book.holds();
+            let entries = book.journal();
+            let written = write_journal(entries, &mut journal);
             shelf.give_out(names.journal, journal);
             let totals = Totals {
-                entries: book.journal().len() as u64,
+                entries: entries.len() as u64,
                 work: book.tally(),
             };
-            stop.unwrap_or(Ending::Done(totals))
-                .and_written(names.journal, written)
+            stop.unwrap_or(Ending::Done(totals)).and_written(names.journal, written)
         }
     }
 }

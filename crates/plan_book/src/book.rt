@@ -115,6 +115,10 @@ impl PlanBook for Book {
     fn tally(&self) -> Tally {
         self.core.tally()
     }
+
+    fn holds(&self) {
+        self.core.holds();
+    }
 }
 
 /// What a book answers to a change where its core answers so.

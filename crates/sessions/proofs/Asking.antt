@@ -1,6 +1,6 @@
 -- The questions that commands are, and their answers after all entries of a book.
-use Rattle.std.proofs.Common.{◌≡◌, ℕ, List, length, Bool, true, false, ◌&&◌, refl, sym, ap, subst, ◌∙◌}
-use Rattle.std.specs.Prelude.{Option, Some, None, Result, Ok, Err, is_ok, IfOk, option_map}
+use Rattle.std.proofs.Common.{◌≡◌, ℕ, List, true, ◌&&◌, refl, sym, ap, subst, ◌∙◌}
+use Rattle.std.specs.Prelude.{Some, Result, Ok, Err, is_ok, IfOk, option_map}
 use Rattle.std.specs.Result.{result_ok}
 use Rattle.std.proofs.lemmas.Bool.{and_parts}
 use Rattle.plan_schema.specs.declared.name.Name.{Name}
@@ -25,7 +25,7 @@ use Rattle.walk_names.specs.Names.{IsTrouble}
 use Rattle.plan_answer.specs.Asks.{Question, ShowsCell, TellsLevel, TellsPlan, Pegs, Promises, Selects, question_of, wanted_by, asks_for_plan}
 use Rattle.plan_answer.specs.Planned.{wants_of}
 use Rattle.plan_answer.specs.Replies.{reply_of}
-use Rattle.plan_core.specs.State.{State, history, point_of}
+use Rattle.plan_core.specs.State.{State, history}
 use Rattle.plan_core.specs.Holds.{HoldsFor}
 use Rattle.plan_core.specs.Asks.{IsAsked, IsBarred}
 use Rattle.plan_book.specs.declared.fault.BookFault.{BookFault}

@@ -10,6 +10,7 @@ use Rattle.command_words.specs.declared.reply.Reply.{Reply}
 use Rattle.command_words.specs.declared.reply.Reply.TheVariants as replies
 use Rattle.plan_book.specs.declared.ground.Ground.{Ground}
 use Rattle.plan_book.specs.Books.{Story, history, entries_in}
+use Rattle.plan_book.proofs.Told.{entries_back}
 use Rattle.session_rules.specs.Requests.{Request, Wish, Makes, Asks, IsBad, user_after, guest}
 use Rattle.session_rules.specs.Sessions.{AreReplies, IsMadeReply, point_after}
 use Rattle.session_rules.specs.Runs.{accepted_point, accepted_points, accepted_entry, accepted_entries, ArePinned, IsRising}
@@ -93,10 +94,6 @@ numbers n session user (q ∷ qs) (r ∷ rs) h =
     (numbers (n + length (accepted_point q.wish r)) session (user_after user q.wish) qs rs h.1)
 
 -- entries that are told with their sessions
-entries_back : (entries : List Entry) → entries_in (signed entries) ≡ entries
-entries_back [] = refl
-entries_back (entry ∷ entries) = ap (λ more. entry ∷ more) (entries_back entries)
-
 unsigned : (all first more : List Entry) → signed all ≡ signed first ++ signed more → all ≡ first ++ more
 unsigned all first more is =
     sym (entries_back all) ∙ ap entries_in is ∙ ap entries_in (sym (map-append (λ (entry : Entry). (entry.session, entry)) first more)) ∙ entries_back (first ++ more)

@@ -1,10 +1,8 @@
 -- Books whose story stays the same.
-use Rattle.std.proofs.Common.{◌≡◌, ℕ, ◌≤◌, List, [], ◌∷◌, Bool, true, false, refl, sym, ap, ◌∙◌, arith}
+use Rattle.std.proofs.Common.{◌≡◌, ℕ, List, [], ◌∷◌, refl, ◌∙◌, arith}
 use Rattle.plan_schema.specs.declared.name.Name.{Name}
-use Rattle.version_rules.specs.Meaning.{Meaning, meaning_after}
-use Rattle.walk_rules.specs.Cells.{Cells, Stands}
-use Rattle.plan_walk.specs.declared.round.Round.{Round}
-use Rattle.plan_walk.specs.declared.round.Round.TheVariants.{Done, More}
+use Rattle.version_rules.specs.Meaning.{meaning_after}
+use Rattle.plan_walk.specs.declared.round.Round.TheVariants.{Done}
 use Rattle.plan_walk.specs.Walk.{round_of}
 use Rattle.plan_core.specs.State.{meaning_of}
 use Rattle.plan_book.specs.declared.ground.Ground.{Ground}

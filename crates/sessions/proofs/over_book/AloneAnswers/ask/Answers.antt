@@ -1,4 +1,3 @@
-use Rattle.std.proofs.Common.{refl}
 use Rattle.sessions.proofs.Entered.{asked_answers}
 use Rattle.sessions.proofs.over_book.AloneAnswers.ask.Goals as goal
 

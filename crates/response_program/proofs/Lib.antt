@@ -13,3 +13,7 @@ pub mod Bases
 pub mod Wholes
 pub mod Books
 pub mod Overs
+pub mod Queues
+pub mod Done
+pub mod Memory
+pub mod Pairs

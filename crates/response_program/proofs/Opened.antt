@@ -102,11 +102,10 @@ AreEmpty ds = AllByRecursion (λ (desk : DeskView). desk.taken ≡ Some []) ds
 pub stops_empty : (old new : View) (pairs : List Pair) (ds : List DeskView) (outcome : Outcome) → StopsOpening old pairs ds outcome new → Tells old → AreEmpty ds
 stops_empty _ _ _ _ _ (desks.no_room shelf pairs) tells = tt
 stops_empty _ _ _ _ _ (desks.here old new pair pairs outcome h) tells = tt
-stops_empty _ _ _ _ _ (desks.later old between new pair desk pairs ds outcome h rest) tells =
-    (
-      h.output (tells pair.output),
-      stops_empty between new pairs ds outcome rest (λ name. some_kept (tells name) (all_kept pair.output old.held between.held h.made.output h.made.others name)),
-    )
+stops_empty _ _ _ _ _ (desks.later old between new pair desk pairs ds outcome h rest) tells = (
+  h.output (tells pair.output),
+  stops_empty between new pairs ds outcome rest (λ name. some_kept (tells name) (all_kept pair.output old.held between.held h.made.output h.made.others name)),
+)
 
 -- the desks are those of the first pairs
 pub stops_named : (P : Pair → Type 0) (old new : View) (pairs : List Pair) (ds : List DeskView) (outcome : Outcome) → StopsOpening old pairs ds outcome new → AllByRecursion P pairs

@@ -89,7 +89,7 @@ faulty_read base _ _ (long ds session) apart name is same = cc
 faulty_read base _ _ (memory ds) apart name is same = cc
 faulty_read base _ _ (later desk ds outcome h) apart name is same = faulty_read base ds outcome h apart.1 name is same
 
-pub IsOfDesk : Outcome → Type 0
+unfoldable pub IsOfDesk : Outcome → Type 0
 IsOfDesk (Done totals) = ⊥
 IsOfDesk NoMemory = Unit {0}
 IsOfDesk (Refused fault) = ⊥

@@ -75,6 +75,12 @@ pub record HasServed (contents : Contents) (session : ℕ) (earlier entries : Li
   pub written : served ≡ ends.WriteFault → Rose old.writes new.writes
   pub serves : (input : List ℕ) → old.left ≡ Some input → Serves (session_of contents session earlier) entries input old.taken new.taken served
 
+-- the same, with why it didn't end
+pub record IsOneServed (contents : Contents) (session : ℕ) (earlier entries : List Entry) (old new : DeskView) (stop : Option Outcome) : Type 0 where
+  pub served : Served
+  pub has : HasServed contents session earlier entries old new served
+  pub stop_is : stop ≡ stop_of old.pair session served
+
 -- sessions were served at desks one after the other, the first with this number, up to the first that didn't end: that one's outcome
 -- is told
 pub data AreServed (contents : Contents) : ℕ → List Entry → List DeskView → List DeskView → List Entry → Option Outcome → Type 0 where

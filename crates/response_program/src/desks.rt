@@ -4,7 +4,7 @@ ghost use Rattle.std.specs.VecDeque.{deque_len, deque_capacity};
 ghost use Rattle.response_program.specs.Names.{pair_of};
 ghost use Rattle.response_program.specs.Outcomes.{outcome_of};
 ghost use Rattle.response_program.specs.Views.{view};
-ghost use Rattle.response_program.specs.Desks.{DeskView, Opens, StopsOpening, AreGivenBack, AreDone};
+ghost use Rattle.response_program.specs.Desks.{DeskView, Opens, StopsOpening, AreGivenBack, IsOneServed, AreDone};
 
 use crate::desk::{OpenDesk, close_desk, open_desk, serve_desk};
 use crate::ending::Ending;
@@ -30,15 +30,15 @@ pub fn open_desks<'a, H: Shelf>(
         × StopsOpening (view H.held H.open_faults H.read_faults H.write_faults shelf.old) (map pair_of pairs.now) opened (outcome_of ending)
         (view H.held H.open_faults H.read_faults H.write_faults shelf.new)) }
 {
-    let Some((pair, rest)) = pairs.split_first() else {
-        return Ok(());
-    };
-    match open_desk(pair, shelf) {
-        Ok(desk) => {
-            put_desk(desk, waiting);
-            open_desks(rest, shelf, waiting)
-        }
-        Err(ending) => Err(ending),
+    match pairs.split_first() {
+        None => Ok(()),
+        Some((pair, rest)) => match open_desk(pair, shelf) {
+            Ok(desk) => {
+                put_desk(desk, waiting);
+                open_desks(rest, shelf, waiting)
+            }
+            Err(ending) => Err(ending),
+        },
     }
 }
 
@@ -77,17 +77,40 @@ pub fn serve_desks<'a, H: Shelf>(
         (option_map outcome_of result) (view H.held H.open_faults H.read_faults H.write_faults shelf.old)
         (view H.held H.open_faults H.read_faults H.write_faults shelf.new) }
 {
-    let mut desk = waiting.pop_front()?;
-    let pair = desk.pair();
-    let served = serve_desk(alloc, session, book, &mut desk);
-    close_desk(desk, shelf);
-    match Ending::of_stop(&pair, session, served) {
-        Some(ending) => {
-            close_desks(waiting, shelf);
-            Some(ending)
+    match waiting.pop_front() {
+        None => None,
+        Some(mut desk) => {
+            let stop = serve_one(alloc, session, book, &mut desk);
+            close_desk(desk, shelf);
+            match stop {
+                Some(ending) => {
+                    close_desks(waiting, shelf);
+                    Some(ending)
+                }
+                None => serve_desks(alloc, session + 1, book, waiting, shelf),
+            }
         }
-        None => serve_desks(alloc, session + 1, book, waiting, shelf),
     }
+}
+
+/// Serves the session of a desk, by its number. Answers why it didn't end, where it didn't.
+fn serve_one<'a, S: Source, K: Sink>(
+    alloc: Global,
+    session: u64,
+    book: &mut Book,
+    desk: &mut OpenDesk<'a, S, K>,
+) -> Option<Ending<'a>>
+    requires some { 1 ≤ session }
+    requires most { session ≤ 16 }
+    requires first { book.old.earlier ≡ [] }
+    ensures base { book.new.base ≡ book.old.base }
+    ensures first { book.new.earlier ≡ [] }
+    ensures served { IsOneServed book.old.base session book.old.entries book.new.entries desk.old
+        desk.new (option_map outcome_of result) }
+{
+    let pair = desk.pair();
+    let served = serve_desk(alloc, session, book, desk);
+    Ending::of_stop(&pair, session, served)
 }
 
 /// Gives the files of desks back.
@@ -96,8 +119,11 @@ pub fn close_desks<H: Shelf>(waiting: &mut VecDeque<OpenDesk<'_, H::In, H::Out>>
     ensures given { AreGivenBack (view H.held H.open_faults H.read_faults H.write_faults shelf.old) waiting.old.items
         (view H.held H.open_faults H.read_faults H.write_faults shelf.new) }
 {
-    if let Some(desk) = waiting.pop_front() {
-        close_desk(desk, shelf);
-        close_desks(waiting, shelf);
+    match waiting.pop_front() {
+        None => (),
+        Some(desk) => {
+            close_desk(desk, shelf);
+            close_desks(waiting, shelf);
+        }
     }
 }

@@ -1,5 +1,5 @@
 //! How a run ends.
-ghost use Rattle.std.specs.Prelude.{◌≡◌, ◌≢◌, ◌≤◌, ◌∷◌, ◌++◌, [], length, option_map};
+ghost use Rattle.std.specs.Prelude.{◌≡◌, ◌≢◌, ◌≤◌, ◌∷◌, ◌++◌, [], length, option_map, unwrap_or};
 ghost use Rattle.plan_schema.specs.Outside.{Wrote};
 ghost use Rattle.response_program.specs.Outcomes as spec;
 ghost use Rattle.response_program.specs.Names.{pair_of};
@@ -65,6 +65,17 @@ impl<'a> Ending<'a> {
             Served::WriteFault => Some(Ending::Write(pair.output)),
             Served::Limit => Some(Ending::Limit(session)),
             Served::Memory | Served::Worn | Served::BookFault => Some(Ending::Memory),
+        }
+    }
+
+    /// How a run ends, by why a session stopped, if one did, and what the run came to.
+    pub fn of_sessions(stop: Option<Ending<'a>>, totals: Totals) -> Ending<'a>
+        ensures { outcome_of result
+            ≡ unwrap_or (option_map outcome_of stop.entry) (spec.Done totals) }
+    {
+        match stop {
+            Some(ending) => ending,
+            None => Ending::Done(totals),
         }
     }
 

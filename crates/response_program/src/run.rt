@@ -162,7 +162,7 @@ fn run_over<'a, H: Shelf>(
                 entries: entries.len() as u64,
                 work: book.tally(),
             };
-            stop.unwrap_or(Ending::Done(totals)).and_written(names.journal, written)
+            Ending::of_sessions(stop, totals).and_written(names.journal, written)
         }
     }
 }

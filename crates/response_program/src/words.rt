@@ -1,5 +1,5 @@
 //! The words of the command line.
-ghost use Rattle.std.specs.Prelude.{◌≡◌, ◌++◌, ◌≤◌, true, false, not, None, Some, Err, map, length, string_bytes, option_map, IfOk, OnOk, IsOk};
+ghost use Rattle.std.specs.Prelude.{◌≡◌, ◌++◌, ◌∷◌, [], ◌≤◌, ◌+◌, true, false, not, None, Some, Err, map, length, string_bytes, option_map, IfOk, OnOk, IsOk};
 ghost use Rattle.std.specs.List.{list_all};
 ghost use Rattle.response_program.specs.Names.{names_of, pair_of};
 ghost use Rattle.response_program.specs.Words as spec;
@@ -61,7 +61,7 @@ pub fn read_words(alloc: Global, words: &[String]) -> Result<RunWords<'_>, WordF
 }
 
 /// Puts the pairs that words name behind those that there are, where there are no more than a run may have.
-#[tactic(auto, unfolding(crate::specs::Words::pairs_of))]
+#[tactic(auto, unfolding(crate::specs::Words::pairs_of), using(crate::proofs::Pairs::put_behind, crate::proofs::Pairs::few_behind))]
 fn read_pairs<'a>(words: &'a [String], pairs: &mut Vec<Pair<'a>>) -> Result<(), WordFault>
     requires { length pairs.old.items ≤ PAIR_LIMIT }
     ensures ok { OnOk result (option_map (λ more. map pair_of pairs.old.items ++ more)
@@ -70,9 +70,32 @@ fn read_pairs<'a>(words: &'a [String], pairs: &mut Vec<Pair<'a>>) -> Result<(), 
     ensures words { result ≡ Err faults.Words
         → spec.are_few (length pairs.old.items) (spec.pairs_of (map string_bytes words.now)) ≡ false }
 {
-    let (Some(input), Some(output)) = (words.first(), words.get(1)) else {
-        return Err(WordFault::Words);
-    };
+    match words {
+        [input, output] => put_pair(input, output, pairs),
+        [input, output, mark, more @ ..] => {
+            if mark.as_str() != "/" {
+                return Err(WordFault::Words);
+            }
+            put_pair(input, output, pairs)?;
+            read_pairs(more, pairs)
+        }
+        _ => Err(WordFault::Words),
+    }
+}
+
+/// Puts a pair behind those that there are, where a run may have one more.
+fn put_pair<'a>(
+    input: &'a String,
+    output: &'a String,
+    pairs: &mut Vec<Pair<'a>>,
+) -> Result<(), WordFault>
+    requires { length pairs.old.items ≤ PAIR_LIMIT }
+    ensures ok { OnOk result (map pair_of pairs.new.items ≡ map pair_of pairs.old.items
+        ++ record { input = string_bytes input.now; output = string_bytes output.now } ∷ []) }
+    ensures len { OnOk result (length pairs.new.items ≡ length pairs.old.items + 1) }
+    ensures most { OnOk result (length pairs.new.items ≤ PAIR_LIMIT) }
+    ensures words { result ≡ Err faults.Words → length pairs.old.items ≡ PAIR_LIMIT }
+{
     if pairs.len() >= PAIR_LIMIT {
         return Err(WordFault::Words);
     }
@@ -80,13 +103,9 @@ fn read_pairs<'a>(words: &'a [String], pairs: &mut Vec<Pair<'a>>) -> Result<(), 
         input: input.as_str(),
         output: output.as_str(),
     };
-    if pairs.push(pair).is_err() {
-        return Err(WordFault::Memory);
-    }
-    match &words[2..] {
-        [] => Ok(()),
-        [mark, more @ ..] if mark.as_str() == "/" => read_pairs(more, pairs),
-        _ => Err(WordFault::Words),
+    match pairs.push(pair) {
+        Ok(()) => Ok(()),
+        Err(_) => Err(WordFault::Memory),
     }
 }
 

@@ -4,6 +4,8 @@ use Rattle.plan_schema.specs.declared.outside.SinkFault.TheVariants as sinks
 use Rattle.plan_schema.specs.Outside.{extended}
 use Rattle.plan_schema.proofs.Writes.{rose_after}
 use Rattle.plan_journal.specs.Entries.{journal_text}
+use Rattle.scenario_rules.specs.Journal.{IsLegal}
+use Rattle.response_program.specs.declared.ending.Totals.{Totals}
 use Rattle.response_program.specs.Views.{view}
 use Rattle.response_program.specs.Names.{names_of}
 use Rattle.response_program.specs.Outcomes.{outcome_of, and_written}
@@ -36,24 +38,24 @@ returns-in-Ok-run_desks g c =
     let old = view g.H.Shelf.held g.H.Shelf.open_faults g.H.Shelf.read_faults g.H.Shelf.write_faults c.args.shelf.now in
     let mid = view g.H.Shelf.held g.H.Shelf.open_faults g.H.Shelf.read_faults g.H.Shelf.write_faults c.make_out.new.self in
     let late = view g.H.Shelf.held g.H.Shelf.open_faults g.H.Shelf.read_faults g.H.Shelf.write_faults c.run_desks.new.shelf in
-    let new = view g.H.Shelf.held g.H.Shelf.open_faults g.H.Shelf.read_faults g.H.Shelf.write_faults c.give_out-2.new.self in
+    let new = view g.H.Shelf.held g.H.Shelf.open_faults g.H.Shelf.read_faults g.H.Shelf.write_faults c.give_out-in-Ok-run_desks.new.self in
     let names = names_of c.args.names.now in
     let contents = c.args.book.now.base in
     let book = c.run_desks.new.book in
     let stop = option_map outcome_of c.in-Ok-run_desks.stop in
-    let totals = record { entries = length book.entries; work = c.tally.result } in
+    let totals : Totals = record { entries = length book.entries; work = c.tally.result } in
     let written = c.write_journal-written.result in
     let making = opened old mid names.journal c.make_out.result c.make_out.ensures.cause c.make_out.ensures.reads c.make_out.ensures.writes in
-    let giving = gave_out late new names.journal (g.H.Out.Sink.faults c.write_journal-written.new.sink) c.give_out-2.ensures.count c.give_out-2.ensures.opens c.give_out-2.ensures.reads in
+    let giving = gave_out late new names.journal (g.H.Out.Sink.faults c.write_journal-written.new.sink) c.give_out-in-Ok-run_desks.ensures.count c.give_out-in-Ok-run_desks.ensures.opens c.give_out-in-Ok-run_desks.ensures.reads in
     let facts = desk_facts mid late names contents book.entries stop c.requires.differ c.in-Ok-run_desks.ensures.ok in
     let before = both_fell old mid late making facts.none_fell in
     let failed = λ (is : written ≡ Err sinks.Failed). rose_after (old.writes names.journal) (late.writes names.journal) (new.writes names.journal) (before.writes names.journal)
-    (counted_rose names.journal late.writes new.writes (g.H.Out.Sink.faults c.in-Ok.journal) (g.H.Out.Sink.faults c.write_journal-written.new.sink) c.in-Ok.ensures.fresh (c.write_journal-written.ensures.cause.failed is) c.give_out-2.ensures.count) in
+    (counted_rose names.journal late.writes new.writes (g.H.Out.Sink.faults c.in-Ok.journal) (g.H.Out.Sink.faults c.write_journal-written.new.sink) c.in-Ok.ensures.fresh (c.write_journal-written.ensures.cause.failed is) c.give_out-in-Ok-run_desks.ensures.count) in
     let same : c.journal-entries.result.now.entries ≡ book.entries = c.journal-entries.ensures in
     let legal = subst (λ base. IsLegal base book.entries) c.run_desks.ensures.base (own_legal book c.run_desks.ensures.first c.holds.ensures.legal) in
-    let over = over_desks old mid late new names contents book.entries c.requires.differ c.make_out.ensures.others c.make_out.ensures.here c.give_out-2.ensures.others making giving stop totals written facts refl legal failed
+    let over = over_desks old mid late new names contents book.entries c.requires.differ c.make_out.ensures.others c.make_out.ensures.here c.give_out-in-Ok-run_desks.ensures.others making giving stop totals written facts refl legal failed
     (λ is tells.
-    c.give_out-2.ensures.here ∙ subst (λ r. OnOk r (g.H.Out.Sink.taken c.write_journal-written.new.sink ≡ extended (g.H.Out.Sink.taken c.in-Ok.journal) (journal_text c.journal-entries.result.now.entries))) is c.write_journal-written.ensures.ok
+    c.give_out-in-Ok-run_desks.ensures.here ∙ subst (λ r. OnOk r (g.H.Out.Sink.taken c.write_journal-written.new.sink ≡ extended (g.H.Out.Sink.taken c.in-Ok.journal) (journal_text c.journal-entries.result.now.entries))) is c.write_journal-written.ensures.ok
     ∙ ap (λ es. extended (g.H.Out.Sink.taken c.in-Ok.journal) (journal_text es)) same
     ∙ ap (λ taken. extended taken (journal_text book.entries)) (c.in-Ok.ensures.empty (tells names.journal))) in
-    subst (HasRunOver old new names contents book.entries) (sym (c.and_written.ensures ∙ ap (λ o. and_written o names.journal written) (end_is g c))) over
+    subst (HasRunOver old new names contents book.entries) (sym (c.and_written.ensures ∙ ap (λ o. and_written o names.journal written) (c.of_sessions.ensures ∙ ap (λ n. ending_of stop (record { entries = n; work = c.tally.result })) (c.len.ensures ∙ ap length same)))) over

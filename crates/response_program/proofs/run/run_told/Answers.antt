@@ -1,4 +1,4 @@
-use Rattle.std.proofs.Common.{◌≡◌, ◌∙◌, Err, Some, sym, ap, subst, inl}
+use Rattle.std.proofs.Common.{◌≡◌, ◌∙◌, Err, Some, refl, sym, ap, subst, inl}
 use Rattle.std.specs.Prelude.{OnOk}
 use Rattle.plan_schema.specs.Outside.{extended}
 use Rattle.plan_schema.specs.declared.outside.SinkFault.TheVariants as sinks

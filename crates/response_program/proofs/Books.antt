@@ -1,7 +1,6 @@
 -- The book of a run, which no entries stand before.
-use Rattle.std.proofs.Common.{◌≡◌, ℕ, List, [], ◌∷◌, ◌++◌, Option, true, refl, sym, ap, subst, ◌∙◌}
+use Rattle.std.proofs.Common.{◌≡◌, ℕ, List, [], ◌++◌, Option, true, ap, subst, ◌∙◌}
 use Rattle.byte_lines.specs.declared.rounds.Served.{Served}
-use Rattle.plan_schema.specs.declared.change.Entry.{Entry}
 use Rattle.plan_core.specs.State.{State}
 use Rattle.plan_book.specs.declared.ground.Ground.{Ground}
 use Rattle.plan_book.specs.Books.{history, story_of, entries_in}

@@ -1,14 +1,14 @@
 -- What giving the files of desks back leaves.
-use Rattle.std.proofs.Common.{◌≡◌, ◌≢◌, ℕ, ◌≤◌, List, [], ◌∷◌, ◌++◌, refl, sym, ap, subst, ◌∙◌, arith, inl, inr, Some}
+use Rattle.std.proofs.Common.{◌≡◌, ◌≢◌, ℕ, List, [], ◌∷◌, refl, sym, ap, subst, ◌∙◌, inl, inr, Some}
 use Rattle.std.specs.List.{AllByRecursion}
 use Rattle.plan_schema.specs.Outside.{Rose, Counted, IsKeptOrEmpty}
-use Rattle.plan_schema.proofs.Writes.{rose_later, rose_after}
+use Rattle.plan_schema.proofs.Writes.{rose_later}
 use Rattle.response_program.specs.Names.{Pair, AreOutputsApart}
 use Rattle.response_program.specs.Views.{View, NoneFell}
 use Rattle.response_program.specs.Outcomes.{Outcome, HasCause}
 use Rattle.response_program.specs.Desks as desks
 use Rattle.response_program.specs.Desks.{DeskView, IsGivenBack, AreGivenBack}
-use Rattle.response_program.proofs.Chains.{same_fell, both_fell, same_or_other, stays_later, counted_rose, cause_later, cause_after}
+use Rattle.response_program.proofs.Chains.{same_fell, both_fell, same_or_other, stays_later, counted_rose, cause_after}
 use Rattle.response_program.proofs.Named.{by_name, kept_then}
 use Rattle.response_program.proofs.Served as faults
 use Rattle.response_program.proofs.Served.{AreNamed, IsFaulty}

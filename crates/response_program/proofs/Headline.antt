@@ -1,6 +1,6 @@
 -- A run within a run: one file more is made before it and given back behind it.
-use Rattle.std.proofs.Common.{◌≡◌, ◌≢◌, ℕ, ◌+◌, ◌-◌, List, [], ◌∷◌, length, Option, Some, None, true, false, suc, zero, refl, sym, ap, subst, ◌∙◌, arith}
-use Rattle.std.specs.Prelude.{IsSome, take, slice_get}
+use Rattle.std.proofs.Common.{◌≡◌, ◌≢◌, ℕ, ◌+◌, ◌-◌, List, [], ◌∷◌, Some, false, suc, zero, sym, subst, ◌∙◌}
+use Rattle.std.specs.Prelude.{take, slice_get}
 use Rattle.std.specs.List.{AllByRecursion}
 use Rattle.plan_schema.specs.declared.change.Entry.{Entry}
 use Rattle.plan_schema.specs.Contents.{Contents}
@@ -15,7 +15,7 @@ use Rattle.response_program.specs.Views.{View}
 use Rattle.response_program.specs.Desks.{session_of}
 use Rattle.response_program.specs.Runs as runs
 use Rattle.response_program.specs.Runs.{Tells, AreHeld, AreCut, IsDoneOver, IsTooLongIn, IsShortOver, ReadsTo, IsDone, IsShort, IsTooLong}
-use Rattle.response_program.proofs.Named.{all_map, all_kept, some_kept}
+use Rattle.response_program.proofs.Named.{all_kept, some_kept}
 
 -- no entries are a legal history
 pub no_entries : (base : Contents) → IsLegal base []

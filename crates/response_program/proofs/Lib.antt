@@ -17,3 +17,4 @@ pub mod Queues
 pub mod Done
 pub mod Memory
 pub mod Pairs
+pub mod Unmade

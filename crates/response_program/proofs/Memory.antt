@@ -4,7 +4,7 @@ use Rattle.plan_import.specs.declared.ImportFault.{ImportFault}
 use Rattle.response_program.specs.declared.ending.Totals.{Totals}
 use Rattle.response_program.specs.Names.{Names}
 use Rattle.response_program.specs.Views.{View}
-use Rattle.response_program.specs.Outcomes.{Outcome, Done, NoMemory, Refused, NotOpened, TooLong}
+use Rattle.response_program.specs.Outcomes.{Done, NoMemory, Refused, NotOpened, TooLong}
 use Rattle.response_program.specs.Responses.{HasResponded}
 use Rattle.response_program.proofs.Chains.{same_fell}
 

@@ -1,7 +1,7 @@
 -- The names of a run's files differ from each other and from the console's.
-use Rattle.std.proofs.Common.{◌≡◌, ◌≢◌, ℕ, ◌≤◌, ◌+◌, List, [], ◌∷◌, Bool, true, false, not, ◌&&◌, ◌==◌, Option, Some, None, sym, ap, ◌∙◌, refl, arith}
-use Rattle.std.specs.Prelude.{get_or, length, nat_le, codes, unwrap_or}
-use Rattle.std.specs.List.{AllByRecursion, list_all}
+use Rattle.std.proofs.Common.{◌≡◌, ◌≢◌, ℕ, ◌≤◌, List, [], ◌∷◌, Bool, true, not, ◌&&◌, ◌==◌, Option, Some, None, sym, ap, ◌∙◌, arith}
+use Rattle.std.specs.Prelude.{get_or, length, codes, unwrap_or}
+use Rattle.std.specs.List.{list_all}
 use Rattle.std.specs.Cmp.Lexicographic.{bytes_decides}
 use Rattle.std.proofs.lemmas.Bool.{and_parts}
 use Rattle.std.proofs.lemmas.Bool.Decides.{nat_tests}

@@ -1,16 +1,16 @@
 -- What opening the files of pairs leaves.
-use Rattle.std.proofs.Common.{◌≡◌, ◌≢◌, ℕ, List, [], ◌∷◌, Option, Some, refl, sym, subst, ◌∙◌, inl, inr}
+use Rattle.std.proofs.Common.{◌≡◌, ◌≢◌, ℕ, List, [], ◌∷◌, Some, refl, sym, subst, ◌∙◌, inl}
 use Rattle.std.specs.Prelude.{IsSome}
 use Rattle.std.specs.List.{AllByRecursion}
 use Rattle.plan_schema.specs.Outside.{IsKeptOrEmpty}
-use Rattle.response_program.specs.Names.{Pair, IsNoInput, AreOutputsApart}
+use Rattle.response_program.specs.Names.{Pair, IsNoInput}
 use Rattle.response_program.specs.Views.{View, NoneFell}
-use Rattle.response_program.specs.Outcomes.{Outcome, NoMemory, HasCause}
+use Rattle.response_program.specs.Outcomes.{Outcome, HasCause}
 use Rattle.response_program.specs.Runs.{Tells}
 use Rattle.response_program.specs.Desks as desks
 use Rattle.response_program.specs.Desks.{DeskView, IsMade, IsOpened, IsUnopened, IsOpening, Opens, StopsOpening}
 use Rattle.response_program.proofs.Chains.{same_fell, both_fell, cause_after}
-use Rattle.response_program.proofs.Named.{by_name, kept_then, some_kept, all_kept}
+use Rattle.response_program.proofs.Named.{kept_then, some_kept, all_kept}
 
 -- what was made over a shelf: nothing fell, each name was kept or made empty, and no name but an output's changed
 pub record AreMade (old new : View) (pairs : List Pair) : Type 0 where

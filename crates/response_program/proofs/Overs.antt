@@ -1,7 +1,6 @@
 -- A run over contents, from its desks and its journal.
-use Rattle.std.proofs.Common.{◌≡◌, ◌≢◌, ℕ, suc, ◌+◌, ◌-◌, List, [], length, Option, Some, None, Result, Ok, Err, refl, sym, ap, subst, ◌∙◌, arith, inl, inr}
-use Rattle.std.specs.Prelude.{unwrap_or, map, take, slice_get}
-use Rattle.std.specs.List.{AllByRecursion}
+use Rattle.std.proofs.Common.{◌≡◌, ◌≢◌, ℕ, ◌+◌, ◌-◌, List, [], length, Option, Some, None, Result, Ok, Err, refl, sym, ap, subst, ◌∙◌, arith, inl, inr}
+use Rattle.std.specs.Prelude.{unwrap_or}
 use Rattle.plan_schema.specs.declared.change.Entry.{Entry}
 use Rattle.plan_schema.specs.Contents.{Contents}
 use Rattle.plan_schema.specs.Outside.{Rose, IsKeptOrEmpty, StaysBut}
@@ -9,15 +8,14 @@ use Rattle.plan_schema.specs.declared.outside.SinkFault.{SinkFault}
 use Rattle.plan_schema.specs.declared.outside.SinkFault.TheVariants as sinks
 use Rattle.plan_journal.specs.Entries.{journal_text}
 use Rattle.scenario_rules.specs.Journal.{IsLegal}
-use Rattle.request_loop.specs.Serving.{is_past_limit}
 use Rattle.response_program.specs.declared.ending.Totals.{Totals}
-use Rattle.response_program.specs.Names.{Pair, Names, Differ, console}
+use Rattle.response_program.specs.Names.{Pair, Names, Differ}
 use Rattle.response_program.specs.Views.{View, NoneFell}
 use Rattle.response_program.specs.Outcomes.{Outcome, Done, NoMemory, Refused, NotOpened, NotRead, NotWritten, TooLong, HasCause, and_written}
-use Rattle.response_program.specs.Desks.{DeskView, HasServedAll, HasServedNone, IsOpening}
+use Rattle.response_program.specs.Desks.{HasServedAll, HasServedNone, IsOpening}
 use Rattle.response_program.specs.Runs.{Tells, IsNoOutput, IsOfBase, IsCut, AreCut, IsTooLongIn, HasRunOver}
 use Rattle.response_program.proofs.Chains.{both_fell, cause_later, cause_after}
-use Rattle.response_program.proofs.Named.{by_name, kept_then, all_kept, all_map}
+use Rattle.response_program.proofs.Named.{by_name, kept_then, all_map}
 use Rattle.response_program.proofs.Opened.{opens_made, opens_fresh, stops_made, why_stopped, stops_empty, stops_named}
 use Rattle.response_program.proofs.Served.{fresh_named, served_named, all_named, served_faulty, faulty_read, faulty_desk, IsOfDesk}
 use Rattle.response_program.proofs.Closed.{closed_fell, closed_others, closed_held, closed_cause, closed_kept, named_apart}

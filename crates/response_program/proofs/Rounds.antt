@@ -1,6 +1,6 @@
 -- Sessions one after the other are a legal run.
-use Rattle.std.proofs.Common.{◌≡◌, ℕ, zero, suc, ◌+◌, ◌-◌, ◌<◌, ◌≤◌, cond, List, [], ◌∷◌, ◌++◌, length, append-nil, Some, refl, sym, ap, subst, ◌∙◌, arith}
-use Rattle.std.specs.Prelude.{true, false, Bool, ◌&&◌, ◌==◌, nat_eq, nat_le, nat_lt, filter, count_by, map}
+use Rattle.std.proofs.Common.{◌≡◌, ℕ, zero, suc, ◌+◌, ◌<◌, ◌≤◌, cond, List, [], ◌∷◌, ◌++◌, length, append-nil, refl, sym, ap, subst, ◌∙◌, arith}
+use Rattle.std.specs.Prelude.{true, false, Bool, ◌&&◌, ◌==◌, nat_le, nat_lt, filter, count_by, map}
 use Rattle.std.proofs.lemmas.Bool.Decides.{nat_tests}
 use Rattle.std.proofs.lemmas.List.{append_assoc, length-append}
 use Rattle.std.proofs.lemmas.List.Sums.{length-filter}
@@ -13,10 +13,10 @@ use Rattle.command_words.specs.declared.reply.Reply.TheVariants as replies
 use Rattle.command_words.specs.Replies.{reply_text}
 use Rattle.scenario_rules.specs.Journal.{IsLegal}
 use Rattle.session_rules.specs.Requests.{Request, Wish, Makes, Asks, IsBad, user_after, guest, requests_of}
-use Rattle.session_rules.specs.Sessions.{AreReplies, IsSession, point_after}
+use Rattle.session_rules.specs.Sessions.{AreReplies, point_after}
 use Rattle.session_rules.specs.Runs.{Desk, IsDesk, AreRounds, IsRun, entries_of, accepted_entry, accepted_entries, accepted_points, accepted_in}
 use Rattle.session_rules.proofs.SessionLaws.{are_within, stay}
-use Rattle.sessions.specs.Serving.{HasAnswered, numbers_behind}
+use Rattle.sessions.specs.Serving.{HasAnswered}
 use Rattle.response_program.specs.Desks.{session_of}
 use Rattle.response_program.proofs.Whole as chains
 use Rattle.response_program.proofs.Whole.{Chain}

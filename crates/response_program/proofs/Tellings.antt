@@ -1,5 +1,5 @@
 -- The lines of the console.
-use Rattle.std.proofs.Common.{◌≡◌, ℕ, List, [], ◌∷◌, ◌++◌, refl, sym, ap, append-nil}
+use Rattle.std.proofs.Common.{◌≡◌, ℕ, List, [], ◌∷◌, ◌++◌, sym, ap, append-nil}
 use Rattle.std.specs.Prelude.{codes}
 use Rattle.response_program.specs.Outcomes.{NotOpened, NotRead, NotWritten, console_line}
 

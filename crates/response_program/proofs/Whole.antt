@@ -1,10 +1,9 @@
 -- What sessions that were served one after the other come to, by what the shelf holds before and after them.
-use Rattle.std.proofs.Common.{◌≡◌, ◌≢◌, ℕ, suc, ◌+◌, ◌-◌, List, [], ◌∷◌, ◌++◌, Option, Some, None, true, false, refl, sym, ap, subst, ◌∙◌, arith}
+use Rattle.std.proofs.Common.{◌≡◌, ℕ, suc, ◌+◌, List, [], ◌∷◌, Option, Some, None, true, false, refl, sym, subst, ◌∙◌, arith}
 use Rattle.std.specs.Prelude.{IsSome, take, slice_get}
 use Rattle.std.specs.List.{AllByRecursion, flat_map}
 use Rattle.plan_schema.specs.declared.change.Entry.{Entry}
 use Rattle.plan_schema.specs.Contents.{Contents}
-use Rattle.plan_schema.specs.Outside.{extended}
 use Rattle.byte_lines.specs.declared.rounds.Served.{Served}
 use Rattle.byte_lines.specs.declared.rounds.Served.TheVariants as ends
 use Rattle.command_words.specs.Replies.{reply_text}
@@ -14,14 +13,13 @@ use Rattle.request_loop.specs.Serving.{is_past_limit}
 use Rattle.sessions.specs.Serving.{IsServed, IsServedShort, HasAnswered}
 use Rattle.response_program.specs.Names.{Pair}
 use Rattle.response_program.specs.Views.{View}
-use Rattle.response_program.specs.Outcomes.{Outcome, TooLong, NotRead, NotWritten, NoMemory, stop_of}
+use Rattle.response_program.specs.Outcomes.{Outcome, TooLong, stop_of}
 use Rattle.response_program.specs.Desks as desks
 use Rattle.response_program.specs.Desks.{DeskView, HasServed, AreServed, session_of}
 use Rattle.response_program.specs.Runs as runs
 use Rattle.response_program.specs.Runs.{Tells, AreHeld, AreCut}
 use Rattle.response_program.proofs.Opened.{IsFresh, AreFresh}
 use Rattle.response_program.proofs.Closed.{AreHeldBy}
-use Rattle.response_program.proofs.Served.{some_is}
 
 -- what a shelf that tells holds under a name
 some_bytes : (held : Option (List ℕ)) → IsSome held → (bytes : List ℕ) × (held ≡ Some bytes)

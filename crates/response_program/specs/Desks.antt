@@ -1,5 +1,5 @@
 -- What desks come to: their files are opened, their sessions are served one after the other, and their files are given back.
-use Rattle.std.specs.Prelude.{◌≡◌, ◌≢◌, ◌≤◌, ℕ, ◌+◌, true, List, [], ◌∷◌, ◌++◌, Option, Some, None, IsSome}
+use Rattle.std.specs.Prelude.{◌≡◌, ◌≤◌, ℕ, ◌+◌, true, List, [], ◌∷◌, Option, Some, None, IsSome}
 use Rattle.plan_schema.specs.declared.change.Entry.{Entry}
 use Rattle.plan_schema.specs.Contents.{Contents}
 use Rattle.plan_schema.specs.Outside.{Rose, Stays, StaysBut, IsKeptOrEmpty, Counted}

@@ -1,5 +1,5 @@
 -- The names of a run's files.
-use Rattle.std.specs.Prelude.{◌≡◌, ◌≢◌, ℕ, List, [], ◌∷◌, map, codes}
+use Rattle.std.specs.Prelude.{◌≢◌, ℕ, List, [], ◌∷◌, map, codes}
 use Rattle.std.specs.List.{AllByRecursion}
 use Rattle.response_program.specs.declared.words.Pair.{Pair as PairWords}
 use Rattle.response_program.specs.declared.words.RunWords.{RunWords}

@@ -1,5 +1,5 @@
 use Rattle.std.proofs.Common.{sym, subst}
-use Rattle.response_program.specs.Views.{View, view}
+use Rattle.response_program.specs.Views.{view}
 use Rattle.response_program.specs.Desks as desks
 use Rattle.response_program.specs.Desks.{DeskView, AreGivenBack}
 use Rattle.response_program.proofs.Queues.{empty_queue, front}

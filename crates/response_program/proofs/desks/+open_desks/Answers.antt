@@ -1,9 +1,9 @@
-use Rattle.std.proofs.Common.{◌≡◌, ◌++◌, ◌∷◌, [], List, append-nil, sym, ap, subst, ◌∙◌}
+use Rattle.std.proofs.Common.{◌++◌, ◌∷◌, [], append-nil, sym, ap, subst, ◌∙◌}
 use Rattle.std.specs.Prelude.{map}
 use Rattle.std.proofs.lemmas.List.{append_assoc}
 use Rattle.response_program.specs.Names.{pair_of}
 use Rattle.response_program.specs.Outcomes.{outcome_of}
-use Rattle.response_program.specs.Views.{View, view}
+use Rattle.response_program.specs.Views.{view}
 use Rattle.response_program.specs.Desks as desks
 use Rattle.response_program.specs.Desks.{DeskView, Opens, StopsOpening}
 use Rattle.response_program.proofs.Queues.{nothing, on_ok, if_err}

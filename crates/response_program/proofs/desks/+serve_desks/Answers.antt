@@ -1,8 +1,8 @@
-use Rattle.std.proofs.Common.{◌≡◌, ◌+◌, ◌∷◌, [], None, Some, refl, sym, ap, subst, ◌∙◌}
+use Rattle.std.proofs.Common.{◌+◌, None, Some, sym, ap, subst}
 use Rattle.std.specs.Prelude.{option_map}
-use Rattle.response_program.specs.Views.{View, view}
+use Rattle.response_program.specs.Views.{view}
 use Rattle.response_program.specs.Outcomes.{outcome_of}
-use Rattle.response_program.specs.Desks.{DeskView, AreDone}
+use Rattle.response_program.specs.Desks.{AreDone}
 use Rattle.response_program.proofs.Done.{done_none, done_stopped, done_ended}
 use Rattle.response_program.proofs.Queues.{empty_queue, front}
 use Rattle.response_program.proofs.desks.+serve_desks.Goals as goal

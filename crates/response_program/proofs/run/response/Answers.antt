@@ -1,4 +1,4 @@
-use Rattle.std.proofs.Common.{◌∙◌, ◌≤◌, length, ap, sym, subst, refl}
+use Rattle.std.proofs.Common.{◌≤◌, length, sym, subst, refl}
 use Rattle.std.specs.Prelude.{map, string_bytes}
 use Rattle.response_program.specs.declared.words.TheConstants.{PAIR_LIMIT}
 use Rattle.response_program.specs.Names.{Names, Differ}

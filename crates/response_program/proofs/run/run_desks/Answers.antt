@@ -1,4 +1,4 @@
-use Rattle.std.proofs.Common.{◌≡◌, []}
+use Rattle.std.proofs.Common.{[]}
 use Rattle.std.specs.Prelude.{map}
 use Rattle.response_program.specs.Names.{pair_of}
 use Rattle.response_program.specs.Views.{view}

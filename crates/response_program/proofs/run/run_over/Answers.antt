@@ -1,5 +1,5 @@
-use Rattle.std.proofs.Common.{◌≡◌, ◌∙◌, [], length, Some, Ok, Err, refl, sym, ap, subst}
-use Rattle.std.specs.Prelude.{OnOk, option_map, unwrap_or}
+use Rattle.std.proofs.Common.{◌≡◌, ◌∙◌, [], length, Err, refl, sym, ap, subst}
+use Rattle.std.specs.Prelude.{OnOk, option_map}
 use Rattle.plan_schema.specs.declared.outside.SinkFault.TheVariants as sinks
 use Rattle.plan_schema.specs.Outside.{extended}
 use Rattle.plan_schema.proofs.Writes.{rose_after}
@@ -11,6 +11,7 @@ use Rattle.response_program.specs.Names.{names_of}
 use Rattle.response_program.specs.Outcomes.{outcome_of, and_written}
 use Rattle.response_program.specs.Runs.{HasRunOver}
 use Rattle.response_program.proofs.Chains.{opened, gave_out, both_fell, counted_rose}
+use Rattle.response_program.proofs.Unmade.{unmade}
 use Rattle.response_program.proofs.Books.{own_legal}
 use Rattle.response_program.proofs.Overs.{desk_facts, none_facts, over_desks, over_none, ending_of}
 use Rattle.response_program.proofs.run.run_over.Goals as goal
@@ -59,3 +60,12 @@ returns-in-Ok-run_desks g c =
     ∙ ap (λ es. extended (g.H.Out.Sink.taken c.in-Ok.journal) (journal_text es)) same
     ∙ ap (λ taken. extended taken (journal_text book.entries)) (c.in-Ok.ensures.empty (tells names.journal))) in
     subst (HasRunOver old new names contents book.entries) (sym (c.and_written.ensures ∙ ap (λ o. and_written o names.journal written) (c.of_sessions.ensures ∙ ap (λ n. ending_of stop (record { entries = n; work = c.tally.result })) (c.len.ensures ∙ ap length same)))) over
+
+-- the journal couldn't be made
+pub returns-in-Err : goal.returns-in-Err
+returns-in-Err g c =
+    let old = view g.H.Shelf.held g.H.Shelf.open_faults g.H.Shelf.read_faults g.H.Shelf.write_faults c.args.shelf.now in
+    let new = view g.H.Shelf.held g.H.Shelf.open_faults g.H.Shelf.read_faults g.H.Shelf.write_faults c.make_out.new.self in
+    let names = names_of c.args.names.now in
+    subst (HasRunOver old new names c.args.book.now.base c.args.book.now.entries) (sym c.of_open.ensures)
+    (unmade old new names c.args.book.now.base c.args.book.now.entries c.in-Err.fault c.make_out.result c.in-Err.is c.make_out.ensures.cause c.make_out.ensures.here c.make_out.ensures.others c.make_out.ensures.reads c.make_out.ensures.writes)

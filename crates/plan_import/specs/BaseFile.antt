@@ -10,7 +10,7 @@ use Rattle.plan_schema.specs.Base.{part_count, has_horizon}
 use Rattle.plan_schema.specs.declared.limits.TheConstants.{PART_LIMIT, RECORD_LIMIT}
 use Rattle.plan_import.specs.declared.TheConstants.{BASE_BYTE_LIMIT}
 use Rattle.row_text.specs.Row.{◌>>=◌}
-use Rattle.closed_tables.specs.Open.{open_row_of}
+use Rattle.row_text.specs.Row.{row_of}
 use Rattle.plan_import.specs.declared.ImportFault.{ImportFault}
 use Rattle.plan_import.specs.declared.ImportFault.TheVariants as faults
 
@@ -31,7 +31,7 @@ with_new k contents row = if is_some (record_at contents row.0) then Err (faults
 -- contents with the record number k
 unfoldable pub with_numbered : ℕ → Contents → List (List ℕ) → Result Contents ImportFault
 with_numbered k contents fields = do
-  row ← numbered k (open_row_of fields)
+  row ← numbered k (row_of fields)
   with_new k contents row
 
 -- contents with the records from number k on, in order; the first that is no row, or repeats a key, is told

@@ -11,10 +11,10 @@ ghost use Rattle.plan_import.specs.Imported.{Imported};
 ghost use Rattle.plan_import.specs.Told.{Tells, TellsFault};
 
 use byte_lines::{ReadAllFault, Source, read_all};
-use closed_tables::read_open_record;
 use csv::{ByteRecord, ReaderBuilder};
 use plan_schema::limits::{PART_LIMIT, RECORD_LIMIT};
 use plan_schema::{Contents, FieldFault, Key, Record, Room};
+use row_text::read_record;
 use std::alloc::{AllocError, Global};
 use thiserror::Error;
 
@@ -114,7 +114,7 @@ fn add_fields(contents: &mut Contents, number: u32, fields: &[&[u8]]) -> Result<
     ensures err { IfErr result (TellsFault (with_numbered number contents.old (texts fields.now))) }
     ensures sound { are_sound_rows contents.old ≡ true → are_sound_rows contents.new ≡ true }
 {
-    match read_open_record(fields) {
+    match read_record(fields) {
         Ok((key, value)) => add_new(contents, number, key, value),
         Err(fault) => Err(ImportFault::Row(number, fault)),
     }

@@ -7,9 +7,9 @@ ghost use Rattle.session_rules.specs.Requests.{row_reading, load_wish, IsBad};
 ghost use Rattle.request_loop.specs.Reading.{Rows as Begun, begun_rows, with_row};
 ghost use Rattle.request_loop.specs.Gathered.{IsGathered, IsKept, ComesTo};
 
-use closed_tables::read_open_record;
 use command_words::{Bad, words_in};
 use plan_schema::{Change, FieldFault, Key, Name, Record, Rows};
+use row_text::read_record;
 use std::alloc::Global;
 
 /// A LOAD of which some rows were read.
@@ -142,7 +142,7 @@ fn read_row(row: u32, _number: u64, line: Option<&[u8]>) -> Result<(Key, Record)
     ensures sound { IfOk result (λ row. is_sound_row row.0 row.1 ≡ true) }
 {
     match line {
-        Some(text) => in_row(row, read_open_record(words_in(text).as_slice())),
+        Some(text) => in_row(row, read_record(words_in(text).as_slice())),
         None => Err(Bad::RowLong(row)),
     }
 }

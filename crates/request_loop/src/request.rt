@@ -7,13 +7,12 @@ ghost use Rattle.session_rules.specs.Requests as requests;
 ghost use Rattle.plan_schema.specs.Sound.{is_sound_change};
 
 use command_words::{Bad, Command, read_words, words_in};
-use plan_schema::{FieldFault, Rule};
 use row_text::is_word;
 
-/// The command words that are served.
-const SERVED: [&[u8]; 6] = [b"HELLO", b"POINT", b"PUT", b"DEL", b"PLAN", b"QUIT"];
+/// Command words of the grammar that aren't served yet.
+const UNSERVED: [&[u8]; 2] = [b"COST", b"TRACE"];
 
-/// What a line is read as, where a command that isn't served counts as none, and a bill's table word as unknown.
+/// What a line is read as, where a command that isn't served counts as none.
 #[tactic(auto, unfolding(session_rules::specs::Requests::reading))]
 pub(crate) fn read_request<'a>(line: &'a [u8]) -> Result<Command<'a>, Bad>
     requires { length line.now ≤ 1024 }
@@ -25,11 +24,7 @@ pub(crate) fn read_request<'a>(line: &'a [u8]) -> Result<Command<'a>, Bad>
     if !is_served(words) {
         return Err(Bad::Word);
     }
-    let read = read_words(line, words);
-    if is_closed(words) {
-        return Err(Bad::Field(closed_fault(&read)));
-    }
-    read
+    read_words(line, words)
 }
 
 /// Whether the program serves the command that the words begin with.
@@ -37,18 +32,8 @@ fn is_served(words: &[&[u8]]) -> bool
     ensures { result ≡ requests.is_served (texts words.now) }
 {
     match words {
-        [word, ..] => is_one_of(&SERVED, word),
+        [word, ..] => !is_one_of(&UNSERVED, word),
         [] => false,
-    }
-}
-
-/// Whether the words put or delete a bill.
-fn is_closed(words: &[&[u8]]) -> bool
-    ensures { result ≡ requests.is_closed (texts words.now) }
-{
-    match words {
-        [verb, _, table, ..] => is_one_of(&[b"PUT", b"DEL"], verb) && is_word(table, b"BILL"),
-        _ => false,
     }
 }
 
@@ -62,14 +47,4 @@ fn is_one_of(words: &[&[u8]], word: &[u8]) -> bool
         }
     }
     false
-}
-
-/// The first faulty field of a line whose table word counts as unknown.
-fn closed_fault(read: &Result<Command<'_>, Bad>) -> FieldFault
-    ensures { result ≡ requests.closed_fault read.now }
-{
-    match read {
-        Err(Bad::Field(fault)) if fault.field < 2 => *fault,
-        _ => FieldFault::at(2, Rule::Shape),
-    }
 }

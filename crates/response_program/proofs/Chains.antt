@@ -8,14 +8,14 @@ use Rattle.plan_schema.proofs.Writes.{rose_later, rose_after, wrote_then}
 use Rattle.response_program.specs.Views.{View, NoneFell}
 use Rattle.response_program.specs.Outcomes.{Outcome, Done, NoMemory, Refused, NotOpened, NotRead, NotWritten, TooLong, HasCause}
 
-same_or_other : (before now : List ℕ → ℕ) (name : List ℕ) → before name ≤ now name → ((other : List ℕ) → other ≢ name → now other ≡ before other) → (other : List ℕ) → before other ≤ now other
+pub same_or_other : (before now : List ℕ → ℕ) (name : List ℕ) → before name ≤ now name → ((other : List ℕ) → other ≢ name → now other ≡ before other) → (other : List ℕ) → before other ≤ now other
 same_or_other before now name here others other =
     elim (pointwise nat_eq other name) as (λ t. pointwise nat_eq other name ≡ t → before other ≤ now other) [
       | true ↦ λ e. (let same : other ≡ name = same_text other name (sym e) in subst (λ n. before n ≤ now n) (sym same) here)
       | false ↦ λ e. (let stays = others other (other_text other name (sym e)) in omega (arith, stays))
     ] refl
 
-stays_later : (before now : List ℕ → ℕ) → Stays before now → (name : List ℕ) → before name ≤ now name
+pub stays_later : (before now : List ℕ → ℕ) → Stays before now → (name : List ℕ) → before name ≤ now name
 stays_later before now h name = let same = h name in omega (arith, same)
 
 -- a part was opened or made
@@ -32,6 +32,9 @@ pub gave_out : (old new : View) (name : List ℕ) (more : ℕ) → Counted name 
 gave_out old new name more count opens reads =
     record { opens = stays_later old.opens new.opens opens; reads = stays_later old.reads new.reads reads; writes = same_or_other old.writes new.writes name count.here.later count.others }
 
+pub same_fell : (shelf : View) → NoneFell shelf shelf
+same_fell shelf = record { opens = λ name. omega arith; reads = λ name. omega arith; writes = λ name. omega arith }
+
 pub both_fell : (a b c : View) → NoneFell a b → NoneFell b c → NoneFell a c
 both_fell a b c h k =
     record {
@@ -42,22 +45,22 @@ both_fell a b c h k =
 
 -- a cause stays one over longer stretches
 pub cause_later : (a b c : View) (outcome : Outcome) → NoneFell b c → HasCause a b outcome → HasCause a c outcome
-cause_later a b c (Done entries) h k = tt
+cause_later a b c (Done totals) h k = tt
 cause_later a b c NoMemory h k = tt
 cause_later a b c (Refused fault) h k = tt
 cause_later a b c (NotOpened name) h k = rose_later _ _ _ k (h.opens name)
 cause_later a b c (NotRead name) h k = rose_later _ _ _ k (h.reads name)
 cause_later a b c (NotWritten name) h k = rose_later _ _ _ k (h.writes name)
-cause_later a b c TooLong h k = tt
+cause_later a b c (TooLong session) h k = tt
 
 pub cause_after : (a b c : View) (outcome : Outcome) → NoneFell a b → HasCause b c outcome → HasCause a c outcome
-cause_after a b c (Done entries) h k = tt
+cause_after a b c (Done totals) h k = tt
 cause_after a b c NoMemory h k = tt
 cause_after a b c (Refused fault) h k = tt
 cause_after a b c (NotOpened name) h k = rose_after _ _ _ (h.opens name) k
 cause_after a b c (NotRead name) h k = rose_after _ _ _ (h.reads name) k
 cause_after a b c (NotWritten name) h k = rose_after _ _ _ (h.writes name) k
-cause_after a b c TooLong h k = tt
+cause_after a b c (TooLong session) h k = tt
 
 -- a part that failed since it was fresh is counted when it is given back
 pub counted_rose : (name : List ℕ) (before now : List ℕ → ℕ) (fresh more : ℕ) → fresh ≡ 0 → Rose fresh more → Counted name more before now → Rose (before name) (now name)

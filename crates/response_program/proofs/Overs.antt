@@ -1,176 +1,188 @@
--- A run over contents, from its desk and its journal.
-use Rattle.std.proofs.Common.{◌≡◌, ◌≢◌, ℕ, List, [], length, Some, Result, Ok, Err, true, refl, sym, subst}
-use Rattle.std.specs.Prelude.{IsSome}
+-- A run over contents, from its desks and its journal.
+use Rattle.std.proofs.Common.{◌≡◌, ◌≢◌, ℕ, ◌+◌, ◌-◌, List, [], length, Option, Some, None, Result, Ok, Err, refl, sym, ap, subst, ◌∙◌, arith, inl, inr}
+use Rattle.std.specs.Prelude.{unwrap_or}
 use Rattle.plan_schema.specs.declared.change.Entry.{Entry}
 use Rattle.plan_schema.specs.Contents.{Contents}
-use Rattle.plan_schema.specs.Outside.{Rose}
+use Rattle.plan_schema.specs.Outside.{Rose, IsKeptOrEmpty, StaysBut}
 use Rattle.plan_schema.specs.declared.outside.SinkFault.{SinkFault}
 use Rattle.plan_schema.specs.declared.outside.SinkFault.TheVariants as sinks
-use Rattle.byte_lines.specs.declared.rounds.Served.{Served}
-use Rattle.byte_lines.specs.declared.rounds.Served.TheVariants as ends
-use Rattle.plan_import.specs.declared.ImportFault.{ImportFault}
-use Rattle.plan_import.specs.declared.ImportFault.TheVariants as imports
-use Rattle.root_sessions.specs.Plans.{has_no_bills}
-use Rattle.request_loop.specs.Serving.{is_past_limit}
-use Rattle.root_sessions.specs.Serving.{IsServed, IsServedShort}
-use Rattle.response_program.specs.Views.{View}
-use Rattle.response_program.specs.Outcomes.{Outcome, Done, NoMemory, Refused, NotOpened, NotRead, NotWritten, TooLong, HasCause, of_import, of_served, and_written}
-use Rattle.response_program.specs.Runs.{Names, only_session, HasRunInput, IsOpening, IsOfBase, IsCut}
+use Rattle.plan_journal.specs.Entries.{journal_text}
+use Rattle.scenario_rules.specs.Journal.{IsLegal}
+use Rattle.response_program.specs.declared.ending.Totals.{Totals}
+use Rattle.response_program.specs.Names.{Pair, Names, Differ}
+use Rattle.response_program.specs.Views.{View, NoneFell}
+use Rattle.response_program.specs.Outcomes.{Outcome, Done, NoMemory, Refused, NotOpened, NotRead, NotWritten, TooLong, HasCause, and_written}
+use Rattle.response_program.specs.Desks.{HasServedAll, HasServedNone, IsOpening}
+use Rattle.response_program.specs.Runs.{Tells, IsNoOutput, IsOfBase, IsCut, AreCut, IsTooLongIn, HasRunOver}
+use Rattle.response_program.proofs.Chains.{both_fell, cause_later, cause_after}
+use Rattle.response_program.proofs.Named.{by_name, kept_then, all_map}
+use Rattle.response_program.proofs.Opened.{opens_made, opens_fresh, stops_made, why_stopped, stops_empty, stops_named}
+use Rattle.response_program.proofs.Served.{fresh_named, served_named, all_named, served_faulty, faulty_read, faulty_desk, IsOfDesk}
+use Rattle.response_program.proofs.Closed.{closed_fell, closed_others, closed_held, closed_cause, closed_kept, named_apart}
+use Rattle.response_program.proofs.Whole.{AllWhole, IsLongAt, all_whole, cut_short, long_at}
+use Rattle.response_program.proofs.Rounds.{is_run}
+use Rattle.response_program.proofs.Endings.{written_done, written_long, written_of_base, written_opened, written_cause, written_cut, cut_written, opening_done, opening_long, opening_cut, opening_of_base}
+use Rattle.response_program.proofs.Headline.{held_over, cut_over, long_over, made_tells}
 
--- what a desk came to
-pub record DeskFacts (old new : View) (names : Names) (contents : Contents) (entries : List Entry) (outcome : Outcome) : Type 0 where
+-- what desks came to: why the last one that was served stopped, if it did
+pub record DeskFacts (old new : View) (names : Names) (contents : Contents) (entries : List Entry) (stop : Option Outcome) : Type 0 where
+  pub none_fell : NoneFell old new
+  pub others : (name : List ℕ) → IsNoOutput names name → new.held name ≡ old.held name
+  pub cause : (outcome : Outcome) → stop ≡ Some outcome → HasCause old new outcome
+  pub kind : (outcome : Outcome) → stop ≡ Some outcome → IsOfDesk outcome
+  pub not_base : (name : List ℕ) → stop ≡ Some (NotRead name) → name ≢ names.base
+  pub done : stop ≡ None → Tells old → AllWhole contents old new 1 [] entries names.pairs
+  pub limit : (session : ℕ) → stop ≡ Some (TooLong session) → Tells old → IsTooLongIn old names session
+  pub cut : (outcome : Outcome) → stop ≡ Some outcome → Tells old → AreCut old new contents 1 [] names.pairs entries
+
+pub desk_facts : (old new : View) (names : Names) (contents : Contents) (entries : List Entry) (stop : Option Outcome) → Differ names → HasServedAll contents old new names.pairs entries stop
+    → DeskFacts old new names contents entries stop
+desk_facts old new names contents entries stop differ h =
+    let made = opens_made old h.opened names.pairs h.desks h.opens in
+    let fresh = opens_fresh old h.opened names.pairs h.desks h.opens differ.no_input in
+    let named = served_named contents 1 [] entries h.desks h.done.left stop h.done.served names.pairs (fresh_named old names.pairs h.desks fresh) in
+    let held = closed_held h.opened new h.done.left h.done.closed (named_apart names.pairs h.done.left named differ.outputs) in
+    record {
+      none_fell = both_fell old h.opened new made.none_fell (closed_fell h.opened new h.done.left h.done.closed);
+      others = λ name apart. closed_others h.opened new h.done.left h.done.closed name (all_named (λ (pair : Pair). name ≢ pair.output) names.pairs h.done.left named apart) ∙ made.others name apart;
+      cause = λ outcome is. cause_after old h.opened new outcome made.none_fell
+          (closed_cause h.opened new h.done.left outcome h.done.closed (served_faulty contents old 1 [] entries h.desks h.done.left stop h.done.served names.pairs fresh outcome is));
+      kind = λ outcome is. faulty_desk h.done.left outcome (served_faulty contents old 1 [] entries h.desks h.done.left stop h.done.served names.pairs fresh outcome is);
+      not_base = λ name is. faulty_read names.base h.done.left (NotRead name) (served_faulty contents old 1 [] entries h.desks h.done.left stop h.done.served names.pairs fresh (NotRead name) is)
+          (all_named (λ (pair : Pair). pair.input ≢ names.base) names.pairs h.done.left named (all_map _ (λ (pair : Pair). pair.input ≢ names.base) (λ pair apart. apart.0) names.pairs differ.no_base)) name refl;
+      done = λ is tells. all_whole contents old new tells 1 [] entries h.desks h.done.left stop h.done.served names.pairs fresh held is;
+      limit = λ session is tells. limited old names session (long_at contents old tells 1 [] entries h.desks h.done.left stop h.done.served names.pairs fresh session is);
+      cut = λ outcome is tells. cut_short contents old new tells 1 [] entries h.desks h.done.left stop h.done.served names.pairs fresh held outcome is;
+    }
+  where
+    limited : (old : View) (names : Names) (session : ℕ) → (k : ℕ) × (session ≡ 1 + k) × IsLongAt old names.pairs k → IsTooLongIn old names session
+    limited old names session found =
+        let is = found.1 in
+        let same : found.0 ≡ session - 1 = omega (arith, is) in
+        let at : IsLongAt old names.pairs (session - 1) = subst (IsLongAt old names.pairs) same found.2 in
+        record { pair = at.pair; at = at.at; input = at.input; held = at.held; past = at.past; earlier = at.earlier }
+
+-- what is left of desks that couldn't be opened
+pub record NoneFacts (old new : View) (names : Names) (outcome : Outcome) : Type 0 where
+  pub none_fell : NoneFell old new
+  pub others : (name : List ℕ) → IsNoOutput names name → new.held name ≡ old.held name
+  pub opening : IsOpening outcome
   pub cause : HasCause old new outcome
-  pub not_of_base : names.base ≢ names.input → IsOfBase names outcome → ⊥
-  pub counted : (number : ℕ) → outcome ≡ Done number → number ≡ length entries
-  pub output : (number : ℕ) → outcome ≡ Done number → has_no_bills contents ≡ true → (input : List ℕ) → old.held names.input ≡ Some input → IsSome (old.held names.output)
-      → (count : ℕ) × IsServed (only_session contents) entries input (Some []) (new.held names.output) count
-  pub limit : outcome ≡ TooLong → has_no_bills contents ≡ true → (input : List ℕ) → old.held names.input ≡ Some input → IsSome (old.held names.output) → is_past_limit input ≡ true
-  pub short : IsCut names outcome → has_no_bills contents ≡ true → (input : List ℕ) → old.held names.input ≡ Some input → IsSome (old.held names.output) → IsServedShort (only_session contents) entries input (Some []) (new.held names.output)
+  pub kept : Tells old → (name : List ℕ) → IsKeptOrEmpty (old.held name) (new.held name)
 
-number_of : {m n : ℕ} → Done m ≡ Done n → m ≡ n
-number_of is = cc
+pub none_facts : (old new : View) (names : Names) (outcome : Outcome) → HasServedNone old new names.pairs outcome → NoneFacts old new names outcome
+none_facts old new names outcome h =
+    let made = stops_made old h.opened names.pairs h.desks outcome h.stops in
+    let why = why_stopped old h.opened names.pairs h.desks outcome h.stops in
+    let closing = closed_fell h.opened new h.desks h.closed in
+    record {
+      none_fell = both_fell old h.opened new made.none_fell closing;
+      others = λ name apart. closed_others h.opened new h.desks h.closed name (stops_named (λ (pair : Pair). name ≢ pair.output) old h.opened names.pairs h.desks outcome h.stops apart) ∙ made.others name apart;
+      opening = why.opening;
+      cause = cause_later old h.opened new outcome closing why.cause;
+      kept = λ tells name. kept_then (made.kept name) (closed_kept h.opened new h.desks h.closed (stops_empty old h.opened names.pairs h.desks outcome h.stops tells) name);
+    }
 
-pub desk_ended : (old new : View) (names : Names) (contents : Contents) (entries : List Entry) (served : Served) → HasRunInput old new names contents entries served → DeskFacts old new names contents entries (of_served names.input names.output (length entries) served)
-desk_ended old new names contents entries (ends.Ended count) h =
-    record { cause = tt; not_of_base = λ apart is. absurd is; counted = λ number is. sym (number_of is); output = λ number is plain input told there. (count, (h.serves plain input told there).whole count refl); limit = λ is plain input told there. cc; short = λ cut plain input told there. absurd cut }
-desk_ended old new names contents entries ends.ReadFault h = record { cause = h.read refl; not_of_base = λ apart is. apart (sym is); counted = λ number is. cc; output = λ number is plain input told there. cc; limit = λ is plain input told there. cc; short = λ cut plain input told there. (h.serves plain input told there).short }
-desk_ended old new names contents entries ends.WriteFault h = record { cause = h.written refl; not_of_base = λ apart is. absurd is; counted = λ number is. cc; output = λ number is plain input told there. cc; limit = λ is plain input told there. cc; short = λ cut plain input told there. (h.serves plain input told there).short }
-desk_ended old new names contents entries ends.Limit h = record { cause = tt; not_of_base = λ apart is. absurd is; counted = λ number is. cc; output = λ number is plain input told there. cc; limit = λ is plain input told there. (h.serves plain input told there).limit refl; short = λ cut plain input told there. (h.serves plain input told there).short }
-desk_ended old new names contents entries ends.Worn h = record { cause = tt; not_of_base = λ apart is. absurd is; counted = λ number is. cc; output = λ number is plain input told there. cc; limit = λ is plain input told there. cc; short = λ cut plain input told there. absurd cut }
-desk_ended old new names contents entries ends.BookFault h = record { cause = tt; not_of_base = λ apart is. absurd is; counted = λ number is. cc; output = λ number is plain input told there. cc; limit = λ is plain input told there. cc; short = λ cut plain input told there. absurd cut }
-desk_ended old new names contents entries ends.Memory h = record { cause = tt; not_of_base = λ apart is. absurd is; counted = λ number is. cc; output = λ number is plain input told there. cc; limit = λ is plain input told there. cc; short = λ cut plain input told there. absurd cut }
+-- with the journal ---------------------------------------------------------------------------------------------------------------
 
--- what is left of an outcome once something more was written ------------------------------------------------------------------
+-- how the sessions end: done with these totals, or as the one that stopped
+abbrev pub ending_of : Option Outcome → Totals → Outcome
+ending_of stop totals = unwrap_or stop (Done totals)
 
-pub written_done : (outcome : Outcome) (name : List ℕ) (written : Result (Unit {0}) SinkFault) (number : ℕ) → and_written outcome name written ≡ Done number → (outcome ≡ Done number) × (written ≡ Ok tt)
-written_done outcome name (Ok done) number is = (is, refl)
-written_done outcome name (Err sinks.Memory) number is = cc
-written_done (Done entries) name (Err sinks.Failed) number is = cc
-written_done NoMemory name (Err sinks.Failed) number is = cc
-written_done (Refused fault) name (Err sinks.Failed) number is = cc
-written_done (NotOpened other) name (Err sinks.Failed) number is = cc
-written_done (NotRead other) name (Err sinks.Failed) number is = cc
-written_done (NotWritten other) name (Err sinks.Failed) number is = cc
-written_done TooLong name (Err sinks.Failed) number is = cc
+of_done : (stop : Option Outcome) (totals found : Totals) → ((outcome : Outcome) → stop ≡ Some outcome → IsOfDesk outcome) → ending_of stop totals ≡ Done found → (stop ≡ None) × (totals ≡ found)
+unfolding IsOfDesk
+of_done None totals found kind is = (refl, same is)
+  where
+    same : Done totals ≡ Done found → totals ≡ found
+    same is = cc
+of_done (Some outcome) totals found kind is = absurd (subst IsOfDesk is (kind outcome refl))
 
-pub written_long : (outcome : Outcome) (name : List ℕ) (written : Result (Unit {0}) SinkFault) → and_written outcome name written ≡ TooLong → outcome ≡ TooLong
-written_long outcome name (Ok done) is = is
-written_long outcome name (Err sinks.Memory) is = cc
-written_long (Done entries) name (Err sinks.Failed) is = cc
-written_long NoMemory name (Err sinks.Failed) is = is
-written_long (Refused fault) name (Err sinks.Failed) is = is
-written_long (NotOpened other) name (Err sinks.Failed) is = is
-written_long (NotRead other) name (Err sinks.Failed) is = is
-written_long (NotWritten other) name (Err sinks.Failed) is = is
-written_long TooLong name (Err sinks.Failed) is = is
+of_opened : (stop : Option Outcome) (totals : Totals) (failed : List ℕ) → ((outcome : Outcome) → stop ≡ Some outcome → IsOfDesk outcome) → ending_of stop totals ≡ NotOpened failed → ⊥
+unfolding IsOfDesk
+of_opened None totals failed kind is = cc
+of_opened (Some outcome) totals failed kind is = subst IsOfDesk is (kind outcome refl)
 
-pub written_refused : (outcome : Outcome) (name : List ℕ) (written : Result (Unit {0}) SinkFault) (fault : ImportFault) → and_written outcome name written ≡ Refused fault → outcome ≡ Refused fault
-written_refused outcome name (Ok done) fault is = is
-written_refused outcome name (Err sinks.Memory) fault is = cc
-written_refused (Done entries) name (Err sinks.Failed) fault is = cc
-written_refused NoMemory name (Err sinks.Failed) fault is = is
-written_refused (Refused other) name (Err sinks.Failed) fault is = is
-written_refused (NotOpened other) name (Err sinks.Failed) fault is = is
-written_refused (NotRead other) name (Err sinks.Failed) fault is = is
-written_refused (NotWritten other) name (Err sinks.Failed) fault is = is
-written_refused TooLong name (Err sinks.Failed) fault is = is
+of_long : (stop : Option Outcome) (totals : Totals) (session : ℕ) → ending_of stop totals ≡ TooLong session → stop ≡ Some (TooLong session)
+of_long None totals session is = cc
+of_long (Some outcome) totals session is = ap Some is
 
-pub written_opened : (outcome : Outcome) (name : List ℕ) (written : Result (Unit {0}) SinkFault) (failed : List ℕ) → and_written outcome name written ≡ NotOpened failed → outcome ≡ NotOpened failed
-written_opened outcome name (Ok done) failed is = is
-written_opened outcome name (Err sinks.Memory) failed is = cc
-written_opened (Done entries) name (Err sinks.Failed) failed is = cc
-written_opened NoMemory name (Err sinks.Failed) failed is = is
-written_opened (Refused other) name (Err sinks.Failed) failed is = is
-written_opened (NotOpened other) name (Err sinks.Failed) failed is = is
-written_opened (NotRead other) name (Err sinks.Failed) failed is = is
-written_opened (NotWritten other) name (Err sinks.Failed) failed is = is
-written_opened TooLong name (Err sinks.Failed) failed is = is
+of_cut : (names : Names) (stop : Option Outcome) (totals : Totals) → IsCut names (ending_of stop totals) → (outcome : Outcome) × (stop ≡ Some outcome)
+of_cut names None totals cut = absurd cut
+of_cut names (Some outcome) totals cut = (outcome, refl)
 
-pub written_of_base : (names : Names) (outcome : Outcome) (name : List ℕ) (written : Result (Unit {0}) SinkFault) → IsOfBase names (and_written outcome name written) → IsOfBase names outcome
-written_of_base names outcome name (Ok done) is = is
-written_of_base names outcome name (Err sinks.Memory) is = absurd is
-written_of_base names (Done entries) name (Err sinks.Failed) is = absurd is
-written_of_base names NoMemory name (Err sinks.Failed) is = is
-written_of_base names (Refused other) name (Err sinks.Failed) is = is
-written_of_base names (NotOpened other) name (Err sinks.Failed) is = is
-written_of_base names (NotRead other) name (Err sinks.Failed) is = is
-written_of_base names (NotWritten other) name (Err sinks.Failed) is = is
-written_of_base names TooLong name (Err sinks.Failed) is = is
+of_cause : (old new : View) (stop : Option Outcome) (totals : Totals) → ((outcome : Outcome) → stop ≡ Some outcome → HasCause old new outcome) → HasCause old new (ending_of stop totals)
+of_cause old new None totals cause = tt
+of_cause old new (Some outcome) totals cause = cause outcome refl
 
--- a session that ended isn't one whose files couldn't be opened
-pub served_opened : (input output : List ℕ) (entries : ℕ) (served : Served) (failed : List ℕ) → of_served input output entries served ≡ NotOpened failed → ⊥
-served_opened input output entries (ends.Ended count) failed is = cc
-served_opened input output entries ends.ReadFault failed is = cc
-served_opened input output entries ends.WriteFault failed is = cc
-served_opened input output entries ends.Limit failed is = cc
-served_opened input output entries ends.Worn failed is = cc
-served_opened input output entries ends.BookFault failed is = cc
-served_opened input output entries ends.Memory failed is = cc
+of_base : (names : Names) (stop : Option Outcome) (totals : Totals) → ((outcome : Outcome) → stop ≡ Some outcome → IsOfDesk outcome) → ((name : List ℕ) → stop ≡ Some (NotRead name) → name ≢ names.base)
+    → IsOfBase names (ending_of stop totals) → ⊥
+unfolding IsOfDesk
+of_base names None totals kind apart is = is
+of_base names (Some (NotRead name)) totals kind apart is = apart name refl is
+of_base names (Some (Refused fault)) totals kind apart is = kind (Refused fault) refl
+of_base names (Some (Done found)) totals kind apart is = is
+of_base names (Some NoMemory) totals kind apart is = is
+of_base names (Some (NotOpened name)) totals kind apart is = is
+of_base names (Some (NotWritten name)) totals kind apart is = is
+of_base names (Some (TooLong session)) totals kind apart is = is
 
--- what couldn't begin
-pub opening_done : (outcome : Outcome) (number : ℕ) → IsOpening outcome → outcome ≡ Done number → ⊥
-opening_done outcome number opening is = subst IsOpening is opening
+module _ (old mid late new : View) (names : Names) (contents : Contents) (entries : List Entry) (differ : Differ names)
+    (before : StaysBut names.journal old.held mid.held) (here : IsKeptOrEmpty (old.held names.journal) (mid.held names.journal)) (after : StaysBut names.journal late.held new.held)
+    (making : NoneFell old mid) (giving : NoneFell late new) where
+  tells_mid : Tells old → Tells mid
+  tells_mid tells = made_tells names.journal old mid tells here before
 
-pub opening_long : (outcome : Outcome) → IsOpening outcome → outcome ≡ TooLong → ⊥
-opening_long outcome opening is = subst IsOpening is opening
+  -- the sessions ran, and the journal was written or failed
+  pub over_desks : (stop : Option Outcome) (totals : Totals) (written : Result (Unit {0}) SinkFault) → DeskFacts mid late names contents entries stop → totals.entries ≡ length entries
+      → IsLegal contents entries → (written ≡ Err sinks.Failed → Rose (old.writes names.journal) (new.writes names.journal))
+      → (written ≡ Ok tt → Tells old → new.held names.journal ≡ Some (journal_text entries)) → HasRunOver old new names contents entries (and_written (ending_of stop totals) names.journal written)
+  over_desks stop totals written facts counted legal failed text =
+      let outcome = ending_of stop totals in
+      let fell = both_fell old mid late making facts.none_fell in
+      record {
+        none_fell = both_fell old late new fell giving;
+        others = λ name journal apart. after name journal ∙ facts.others name apart ∙ before name journal;
+        cause = written_cause old new outcome names.journal written
+            (cause_later old late new outcome giving (cause_after old mid late outcome making (of_cause mid late stop totals facts.cause))) failed;
+        not_of_base = λ is. of_base names stop totals facts.kind facts.not_base (written_of_base names outcome names.journal written is);
+        opened = λ fault is. absurd (of_opened stop totals fault facts.kind (written_opened outcome names.journal written fault is));
+        counted = λ found is. (let same = of_done stop totals found facts.kind (written_done outcome names.journal written found is).0 in sym (ap (λ t. t.entries) same.1) ∙ counted);
+        done = λ found is tells.
+            (let both = written_done outcome names.journal written found is in
+            let none = of_done stop totals found facts.kind both.0 in
+            let whole = facts.done none.0 (tells_mid tells) in
+            record {
+              journal_is = text both.1 tells;
+              desks = whole.sessions;
+              held = held_over names.journal old mid late new before after names.pairs whole.sessions differ.no_journal whole.held;
+              legal = is_run contents entries whole.sessions legal whole.chain;
+              within = whole.within;
+            });
+        limit = λ session is tells.
+            long_over names.journal old mid late new before after names session differ.no_journal
+            (facts.limit session (of_long stop totals session (written_long outcome names.journal written session is)) (tells_mid tells));
+        cut = λ cut tells never.
+            (let stopped = of_cut names stop totals (written_cut names outcome names.journal written (λ journal other. journal refl) cut) in
+            record {
+              legal = legal;
+              journal_is = text (cut_written names outcome names.journal written cut (λ is. never (failed is))) tells;
+              outputs = cut_over names.journal old mid late new before after contents 1 [] entries names.pairs differ.no_journal (facts.cut stopped.0 stopped.1 (tells_mid tells));
+            });
+      }
 
-pub opening_cut : (names : Names) (outcome : Outcome) → IsOpening outcome → IsCut names outcome → ⊥
-opening_cut names (NotOpened name) opening cut = cut
-opening_cut names NoMemory opening cut = cut
-opening_cut names (Done number) opening cut = opening
-opening_cut names (Refused fault) opening cut = opening
-opening_cut names (NotRead name) opening cut = opening
-opening_cut names (NotWritten name) opening cut = opening
-opening_cut names TooLong opening cut = opening
-
-pub opening_of_base : (names : Names) (outcome : Outcome) → IsOpening outcome → IsOfBase names outcome → ⊥
-opening_of_base names (NotOpened name) opening base = base
-opening_of_base names NoMemory opening base = base
-opening_of_base names (Done number) opening base = opening
-opening_of_base names (Refused fault) opening base = opening
-opening_of_base names (NotRead name) opening base = opening
-opening_of_base names (NotWritten name) opening base = opening
-opening_of_base names TooLong opening base = opening
-
-pub written_cause : (old new : View) (outcome : Outcome) (name : List ℕ) (written : Result (Unit {0}) SinkFault) → HasCause old new outcome → (written ≡ Err sinks.Failed → Rose (old.writes name) (new.writes name)) → HasCause old new (and_written outcome name written)
-written_cause old new outcome name (Ok done) cause rose = cause
-written_cause old new outcome name (Err sinks.Memory) cause rose = tt
-written_cause old new (Done entries) name (Err sinks.Failed) cause rose = rose refl
-written_cause old new NoMemory name (Err sinks.Failed) cause rose = cause
-written_cause old new (Refused fault) name (Err sinks.Failed) cause rose = cause
-written_cause old new (NotOpened other) name (Err sinks.Failed) cause rose = cause
-written_cause old new (NotRead other) name (Err sinks.Failed) cause rose = cause
-written_cause old new (NotWritten other) name (Err sinks.Failed) cause rose = cause
-written_cause old new TooLong name (Err sinks.Failed) cause rose = cause
-
--- where the outcome stays, and nothing failed for want of memory, the text was written or its count rose
-pub written_told : (outcome : Outcome) (name : List ℕ) (written : Result (Unit {0}) SinkFault) → and_written outcome name written ≢ NoMemory → (written ≡ Err sinks.Failed → ⊥) → (written ≡ Ok tt) × (and_written outcome name written ≡ outcome)
-written_told outcome name (Ok done) never rose = (refl, refl)
-written_told outcome name (Err sinks.Memory) never rose = absurd (never refl)
-written_told outcome name (Err sinks.Failed) never rose = absurd (rose refl)
-
--- what cut a session short cut it before anything more was written
-pub written_cut : (names : Names) (outcome : Outcome) (name : List ℕ) (written : Result (Unit {0}) SinkFault) → name ≢ names.output → IsCut names (and_written outcome name written) → IsCut names outcome
-written_cut names outcome name (Ok done) apart cut = cut
-written_cut names outcome name (Err sinks.Memory) apart cut = absurd cut
-written_cut names (Done entries) name (Err sinks.Failed) apart cut = absurd (apart cut)
-written_cut names NoMemory name (Err sinks.Failed) apart cut = cut
-written_cut names (Refused fault) name (Err sinks.Failed) apart cut = cut
-written_cut names (NotOpened other) name (Err sinks.Failed) apart cut = cut
-written_cut names (NotRead other) name (Err sinks.Failed) apart cut = cut
-written_cut names (NotWritten other) name (Err sinks.Failed) apart cut = cut
-written_cut names TooLong name (Err sinks.Failed) apart cut = cut
-
-pub cut_written : (names : Names) (outcome : Outcome) (name : List ℕ) (written : Result (Unit {0}) SinkFault) → IsCut names (and_written outcome name written) → (written ≡ Err sinks.Failed → ⊥) → written ≡ Ok tt
-cut_written names outcome name (Ok done) cut never = refl
-cut_written names outcome name (Err sinks.Memory) cut never = absurd cut
-cut_written names outcome name (Err sinks.Failed) cut never = absurd (never refl)
-
--- a base that wasn't read cuts no session short
-pub base_no_cut : (names : Names) (fault : ImportFault) → names.base ≢ names.input → IsCut names (of_import names.base fault) → ⊥
-base_no_cut names imports.Read apart cut = apart cut
-base_no_cut names imports.Memory apart cut = cut
-base_no_cut names (imports.Full room) apart cut = cut
-base_no_cut names (imports.Row number fault) apart cut = cut
-base_no_cut names (imports.Twice number) apart cut = cut
-base_no_cut names imports.NoPlan apart cut = cut
+  -- they couldn't begin, and the journal stays empty
+  pub over_none : (outcome : Outcome) → NoneFacts mid late names outcome → (Tells old → new.held names.journal ≡ Some []) → HasRunOver old new names contents [] outcome
+  over_none outcome facts empty =
+      record {
+        none_fell = both_fell old late new (both_fell old mid late making facts.none_fell) giving;
+        others = λ name journal apart. after name journal ∙ facts.others name apart ∙ before name journal;
+        cause = cause_later old late new outcome giving (cause_after old mid late outcome making facts.cause);
+        not_of_base = opening_of_base names outcome facts.opening;
+        opened = λ failed is tells name.
+            by_name name names.journal (λ same. inr (ap new.held same ∙ empty tells))
+            (λ apart. kept_then (inl (before name apart)) (kept_then (facts.kept (tells_mid tells) name) (inl (after name apart))));
+        counted = λ totals is. absurd (opening_done outcome totals facts.opening is);
+        done = λ totals is. absurd (opening_done outcome totals facts.opening is);
+        limit = λ session is. absurd (opening_long outcome session facts.opening is);
+        cut = λ cut. absurd (opening_cut names outcome facts.opening cut);
+      }

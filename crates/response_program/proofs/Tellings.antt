@@ -1,12 +1,7 @@
 -- The lines of the console.
-use Rattle.std.proofs.Common.{◌≡◌, ℕ, List, [], ◌∷◌, ◌++◌, refl, sym, ap, append-nil}
+use Rattle.std.proofs.Common.{◌≡◌, ℕ, List, [], ◌∷◌, ◌++◌, sym, ap, append-nil}
 use Rattle.std.specs.Prelude.{codes}
-use Rattle.std.specs.Fmt.{digits}
-use Rattle.response_program.specs.Outcomes.{TooLong, NotOpened, NotRead, NotWritten, console_line}
-
-pub limit_line : codes "limit 1\n" ≡ console_line TooLong
-unfolding digits
-limit_line = refl
+use Rattle.response_program.specs.Outcomes.{NotOpened, NotRead, NotWritten, console_line}
 
 pub open_line : (name : List ℕ) → codes "open " ++ (name ++ 10 ∷ []) ≡ console_line (NotOpened name)
 open_line name = ap (λ t. codes "open " ++ (t ++ 10 ∷ [])) (sym (append-nil name))

@@ -1,6 +1,8 @@
 pub mod Words
+pub mod Names
 pub mod Views
 pub mod Outcomes
+pub mod Desks
 pub mod Runs
 pub mod Responses
 pub use Rattle.plan_schema.specs.Outside

@@ -1,5 +1,5 @@
 -- How a run comes out: its status, the console's line, and the cause of each fault.
-use Rattle.std.specs.Prelude.{ℕ, List, [], ◌∷◌, Result, Ok, Err, codes, decimal}
+use Rattle.std.specs.Prelude.{ℕ, List, [], ◌∷◌, Option, Some, None, Result, Ok, Err, codes, decimal}
 use Rattle.plan_schema.specs.Outside.{Rose}
 use Rattle.plan_schema.specs.declared.outside.ShelfFault.{ShelfFault}
 use Rattle.plan_schema.specs.declared.outside.ShelfFault.TheVariants as shelves
@@ -11,38 +11,41 @@ use Rattle.row_text.specs.Spelling.{words_text}
 use Rattle.command_words.specs.Replies.{ended, room_word, rule_word}
 use Rattle.plan_import.specs.declared.ImportFault.{ImportFault}
 use Rattle.plan_import.specs.declared.ImportFault.TheVariants as imports
+use Rattle.response_program.specs.declared.ending.Totals.{Totals}
 use Rattle.response_program.specs.declared.ending.Ending.{Ending}
 use Rattle.response_program.specs.declared.ending.Ending.TheVariants as endings
+use Rattle.response_program.specs.Names.{Pair}
 use Rattle.response_program.specs.Views.{View}
 
--- everything ended, with so many entries; there was no memory; the base is refused; a file can't be opened, read or written; the input is too long
+-- everything ended, with these totals; there was no memory; the base is refused; a file can't be opened, read or written; the input of
+-- the session with this number is too long
 pub data Outcome : Type 0 where
-  Done : ℕ → Outcome
+  Done : Totals → Outcome
   NoMemory : Outcome
   Refused : ImportFault → Outcome
   NotOpened : List ℕ → Outcome
   NotRead : List ℕ → Outcome
   NotWritten : List ℕ → Outcome
-  TooLong : Outcome
+  TooLong : ℕ → Outcome
 
 abbrev pub outcome_of : Ending → Outcome
-outcome_of (endings.Done entries) = Done entries
+outcome_of (endings.Done totals) = Done totals
 outcome_of endings.Memory = NoMemory
 outcome_of (endings.Base fault) = Refused fault
 outcome_of (endings.Open name) = NotOpened name.now
 outcome_of (endings.Read name) = NotRead name.now
 outcome_of (endings.Write name) = NotWritten name.now
-outcome_of endings.Limit = TooLong
+outcome_of (endings.Limit session) = TooLong session
 
 -- the status of the program
 abbrev pub status_of : Outcome → ℕ
-status_of (Done entries) = 0
+status_of (Done totals) = 0
 status_of NoMemory = 1
 status_of (Refused fault) = 3
 status_of (NotOpened name) = 4
 status_of (NotRead name) = 5
 status_of (NotWritten name) = 6
-status_of TooLong = 7
+status_of (TooLong session) = 7
 
 -- why a base is refused
 abbrev pub base_words : ImportFault → List (List ℕ)
@@ -53,13 +56,15 @@ base_words fault = codes "no-plan" ∷ []
 
 -- the console's line
 abbrev pub line_words : Outcome → List (List ℕ)
-line_words (Done entries) = codes "entries" ∷ decimal entries ∷ codes "netted" ∷ decimal 0 ∷ codes "reused" ∷ decimal 0 ∷ codes "dropped" ∷ decimal 0 ∷ []
+line_words (Done totals) =
+    codes "entries" ∷ decimal totals.entries ∷ codes "netted" ∷ decimal totals.work.netted ∷ codes "reused" ∷ decimal totals.work.reused ∷ codes "dropped"
+    ∷ decimal totals.work.dropped ∷ []
 line_words NoMemory = codes "memory" ∷ []
 line_words (Refused fault) = codes "base" ∷ base_words fault
 line_words (NotOpened name) = codes "open" ∷ name ∷ []
 line_words (NotRead name) = codes "read" ∷ name ∷ []
 line_words (NotWritten name) = codes "write" ∷ name ∷ []
-line_words TooLong = codes "limit" ∷ decimal 1 ∷ []
+line_words (TooLong session) = codes "limit" ∷ decimal session ∷ []
 
 abbrev pub console_line : Outcome → List ℕ
 console_line outcome = ended (words_text (line_words outcome))
@@ -82,17 +87,17 @@ of_import name imports.Read = NotRead name
 of_import name imports.Memory = NoMemory
 of_import name fault = Refused fault
 
--- the end of the session, behind which there are so many entries
-abbrev pub of_served : List ℕ → List ℕ → ℕ → Served → Outcome
-of_served input output entries (ends.Ended count) = Done entries
-of_served input output entries ends.ReadFault = NotRead input
-of_served input output entries ends.WriteFault = NotWritten output
-of_served input output entries ends.Limit = TooLong
-of_served input output entries served = NoMemory
+-- why no session behind this one is served: none where it ended
+abbrev pub stop_of : Pair → ℕ → Served → Option Outcome
+stop_of pair session (ends.Ended count) = None
+stop_of pair session ends.ReadFault = Some (NotRead pair.input)
+stop_of pair session ends.WriteFault = Some (NotWritten pair.output)
+stop_of pair session ends.Limit = Some (TooLong session)
+stop_of pair session served = Some NoMemory
 
 -- the first fault stays, but want of memory tops all
 abbrev pub first_of_two : Outcome → List ℕ → Outcome
-first_of_two (Done entries) name = NotWritten name
+first_of_two (Done totals) name = NotWritten name
 first_of_two outcome name = outcome
 
 abbrev pub and_written : Outcome → List ℕ → Result (Unit {0}) SinkFault → Outcome

@@ -1,26 +1,36 @@
 //! How a run ends.
-ghost use Rattle.std.specs.Prelude.{◌≡◌, ◌≢◌, ◌≤◌, ◌∷◌, ◌++◌, [], length};
+ghost use Rattle.std.specs.Prelude.{◌≡◌, ◌≢◌, ◌≤◌, ◌∷◌, ◌++◌, [], length, option_map, unwrap_or};
 ghost use Rattle.plan_schema.specs.Outside.{Wrote};
 ghost use Rattle.response_program.specs.Outcomes as spec;
+ghost use Rattle.response_program.specs.Names.{pair_of};
 ghost use Rattle.response_program.specs.Outcomes.{outcome_of};
 ghost use Rattle.arrayvec.specs.ArrayVec.{array_vec_len};
 
+use crate::words::Pair;
 use byte_lines::{Served, ShelfFault, Sink, SinkFault, write_all};
 use command_words::{room_bytes, rule_bytes};
 use plan_import::ImportFault;
+use plan_walk::Tally;
 use row_text::{RowText, push_number, push_word};
+
+/// What a run came to: how many entries its journal has, and how much was netted, reused and dropped.
+#[derive(Clone, Copy)]
+pub struct Totals {
+    pub entries: u64,
+    pub work: Tally,
+}
 
 /// How a run ends, with the name of the file that failed.
 #[derive(Clone, Copy)]
 pub enum Ending<'a> {
-    /// With so many entries in the journal.
-    Done(u64),
+    Done(Totals),
     Memory,
     Base(ImportFault),
     Open(&'a str),
     Read(&'a str),
     Write(&'a str),
-    Limit,
+    /// The input of the session with this number is too long.
+    Limit(u64),
 }
 
 impl<'a> Ending<'a> {
@@ -45,16 +55,27 @@ impl<'a> Ending<'a> {
         }
     }
 
-    /// What the end of the session comes to, behind which there are so many entries.
-    pub fn of_served(input: &'a str, output: &'a str, entries: u64, served: Served) -> Ending<'a>
-        ensures { outcome_of result ≡ spec.of_served input.now output.now entries served }
+    /// Why no session behind one with this number is served, where it didn't end.
+    pub fn of_stop(pair: &Pair<'a>, session: u64, served: Served) -> Option<Ending<'a>>
+        ensures { option_map outcome_of result ≡ spec.stop_of (pair_of pair.now) session served }
     {
         match served {
-            Served::Ended(_) => Ending::Done(entries),
-            Served::ReadFault => Ending::Read(input),
-            Served::WriteFault => Ending::Write(output),
-            Served::Limit => Ending::Limit,
-            Served::Memory | Served::Worn | Served::BookFault => Ending::Memory,
+            Served::Ended(_) => None,
+            Served::ReadFault => Some(Ending::Read(pair.input)),
+            Served::WriteFault => Some(Ending::Write(pair.output)),
+            Served::Limit => Some(Ending::Limit(session)),
+            Served::Memory | Served::Worn | Served::BookFault => Some(Ending::Memory),
+        }
+    }
+
+    /// How a run ends, by why a session stopped, if one did, and what the run came to.
+    pub fn of_sessions(stop: Option<Ending<'a>>, totals: Totals) -> Ending<'a>
+        ensures { outcome_of result
+            ≡ unwrap_or (option_map outcome_of stop.entry) (spec.Done totals) }
+    {
+        match stop {
+            Some(ending) => ending,
+            None => Ending::Done(totals),
         }
     }
 
@@ -84,7 +105,7 @@ impl<'a> Ending<'a> {
             Ending::Open(_) => 4,
             Ending::Read(_) => 5,
             Ending::Write(_) => 6,
-            Ending::Limit => 7,
+            Ending::Limit(_) => 7,
         }
     }
 
@@ -94,13 +115,13 @@ impl<'a> Ending<'a> {
             (spec.console_line (outcome_of self.now)) result }
     {
         match self {
-            Ending::Done(entries) => write_all(console, done_line(*entries).as_slice()),
+            Ending::Done(totals) => write_all(console, done_line(totals).as_slice()),
             Ending::Memory => write_all(console, b"memory\n"),
             Ending::Base(fault) => write_all(console, base_line(*fault).as_slice()),
             Ending::Open(name) => tell_of(console, b"open ", name),
             Ending::Read(name) => tell_of(console, b"read ", name),
             Ending::Write(name) => tell_of(console, b"write ", name),
-            Ending::Limit => write_all(console, b"limit 1\n"),
+            Ending::Limit(session) => write_all(console, limit_line(*session).as_slice()),
         }
     }
 }
@@ -122,19 +143,30 @@ fn tell_name<K: Sink>(console: &mut K, name: &str) -> Result<(), SinkFault>
     write_all(console, b"\n")
 }
 
-/// The line of a run that is done. Nothing is counted but its entries yet.
-fn done_line(entries: u64) -> RowText
-    ensures { result.items ≡ spec.console_line (spec.Done entries) }
+/// The line of an input that is too long.
+fn limit_line(session: u64) -> RowText
+    ensures { result.items ≡ spec.console_line (spec.TooLong session) }
+{
+    let mut text = RowText::new();
+    let _ = text.try_extend_from_slice(b"limit");
+    push_number(&mut text, session);
+    let _ = text.try_push(b'\n');
+    text
+}
+
+/// The line of a run that is done.
+fn done_line(totals: &Totals) -> RowText
+    ensures { result.items ≡ spec.console_line (spec.Done totals.now) }
 {
     let mut text = RowText::new();
     let _ = text.try_extend_from_slice(b"entries");
-    push_number(&mut text, entries);
+    push_number(&mut text, totals.entries);
     push_word(&mut text, b"netted");
-    push_number(&mut text, 0);
+    push_number(&mut text, totals.work.netted);
     push_word(&mut text, b"reused");
-    push_number(&mut text, 0);
+    push_number(&mut text, totals.work.reused);
     push_word(&mut text, b"dropped");
-    push_number(&mut text, 0);
+    push_number(&mut text, totals.work.dropped);
     let _ = text.try_push(b'\n');
     text
 }

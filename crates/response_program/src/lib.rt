@@ -1,6 +1,8 @@
-//! The program: what its words ask for, and the run of a session over a base.
+//! The program: what its words ask for, and the run of sessions over a base.
 #![tactic(auto)]
 
+mod desk;
+mod desks;
 mod ending;
 mod run;
 mod words;

@@ -1,21 +1,25 @@
-//! A run: one session over a base.
-ghost use Rattle.std.specs.Prelude.{◌≡◌, ◌≢◌, [], OnErr, true, false, map, string_bytes};
+//! A run: sessions over a base, one after the other.
+ghost use Rattle.std.specs.Prelude.{◌≡◌, ◌≤◌, [], OnErr, IfOk, IfErr, true, false, map, length, option_map, string_bytes};
 ghost use Rattle.plan_schema.specs.Base.{is_base};
 ghost use Rattle.response_program.specs.Views.{view};
 ghost use Rattle.response_program.specs.Outcomes.{outcome_of};
-ghost use Rattle.response_program.specs.Runs.{Differ, HasRun, HasRunBook, HasRunDesk, HasRunOver, HasServedDesk, names_of};
-ghost use Rattle.response_program.specs.Words.{is_run};
-ghost use Rattle.response_program.specs.Responses.{HasResponded, HasRefused, names_in};
+ghost use Rattle.response_program.specs.declared.words.TheConstants.{PAIR_LIMIT};
+ghost use Rattle.response_program.specs.Names.{Differ, names_of};
+ghost use Rattle.response_program.specs.Desks.{HasServedAll, HasServedNone};
+ghost use Rattle.response_program.specs.Runs.{HasRun, HasRunBook, HasRunOver};
+ghost use Rattle.response_program.specs.Words.{is_run, names_in};
+ghost use Rattle.response_program.specs.Responses.{HasResponded, HasRefused};
 
-use crate::ending::Ending;
-use crate::words::{RunWords, read_words};
-use byte_lines::{Served, Shelf, ShelfFault, SinkFault, write_all};
+use crate::desks::{close_desks, open_desks, serve_desks};
+use crate::ending::{Ending, Totals};
+use crate::words::{RunWords, WordFault, read_words};
+use byte_lines::{Shelf, ShelfFault, SinkFault, write_all};
+use plan_book::{Book, PlanBook};
 use plan_import::import;
 use plan_journal::write_journal;
 use plan_schema::Contents;
-use root_book::Book;
-use root_sessions::serve_alone;
 use std::alloc::Global;
+use std::collections::VecDeque;
 
 /// The name of the console.
 const CONSOLE: &str = "-";
@@ -25,6 +29,9 @@ const WORDS: u8 = 2;
 
 /// The status of want of memory.
 const NO_MEMORY: u8 = 1;
+
+/// How many pairs the memo has.
+const MEMO_PAIRS: u32 = 16_384;
 
 /// Does what the words ask for with the files of a shelf, tells the console how it ended, and answers the status: 0 where all ended,
 /// 1 for want of memory, 2 where the words aren't the program's, 3 where the base is refused, 4, 5 and 6 where a file couldn't be
@@ -38,9 +45,10 @@ pub fn response<H: Shelf>(alloc: Global, words: &[String], shelf: &mut H) -> u8
         → HasRefused (view H.held H.open_faults H.read_faults H.write_faults shelf.old)
         (view H.held H.open_faults H.read_faults H.write_faults shelf.new) result }
 {
-    match read_words(words) {
-        Some(names) => run_told(alloc, &names, shelf),
-        None => refuse(shelf),
+    match read_words(alloc, words) {
+        Ok(names) => run_told(alloc, &names, shelf),
+        Err(WordFault::Words) => refuse(shelf),
+        Err(WordFault::Memory) => NO_MEMORY,
     }
 }
 
@@ -64,7 +72,8 @@ fn refuse<H: Shelf>(shelf: &mut H) -> u8
 
 /// A run, with the console told how it ended.
 fn run_told<H: Shelf>(alloc: Global, names: &RunWords<'_>, shelf: &mut H) -> u8
-    requires { Differ (names_of names.now) }
+    requires pairs { length (names_of names.now).pairs ≤ PAIR_LIMIT }
+    requires differ { Differ (names_of names.now) }
     ensures { HasResponded (view H.held H.open_faults H.read_faults H.write_faults shelf.old)
         (view H.held H.open_faults H.read_faults H.write_faults shelf.new) (names_of names.now)
         result }
@@ -81,7 +90,8 @@ fn run_told<H: Shelf>(alloc: Global, names: &RunWords<'_>, shelf: &mut H) -> u8
 
 /// Reads the base, and runs over it.
 fn run<'a, H: Shelf>(alloc: Global, names: &RunWords<'a>, shelf: &mut H) -> Ending<'a>
-    requires { Differ (names_of names.now) }
+    requires pairs { length (names_of names.now).pairs ≤ PAIR_LIMIT }
+    requires differ { Differ (names_of names.now) }
     ensures { HasRun (view H.held H.open_faults H.read_faults H.write_faults shelf.old)
         (view H.held H.open_faults H.read_faults H.write_faults shelf.new) (names_of names.now)
         (outcome_of result) }
@@ -106,20 +116,19 @@ fn run_book<'a, H: Shelf>(
     shelf: &mut H,
 ) -> Ending<'a>
     requires base { is_base contents ≡ true }
+    requires pairs { length (names_of names.now).pairs ≤ PAIR_LIMIT }
     requires differ { Differ (names_of names.now) }
     ensures { HasRunBook (view H.held H.open_faults H.read_faults H.write_faults shelf.old)
         (view H.held H.open_faults H.read_faults H.write_faults shelf.new) (names_of names.now)
         contents (outcome_of result) }
 {
-    let begun = Book::begin(alloc, &contents);
-    drop(contents);
-    match begun {
+    match Book::begin(alloc, contents, MEMO_PAIRS) {
         Ok(mut book) => run_over(alloc, names, &mut book, shelf),
         Err(_) => Ending::Memory,
     }
 }
 
-/// Makes the journal, runs the session, and writes the entries, whatever the session came to. Where it couldn't begin, the journal
+/// Makes the journal, serves the sessions, and writes the entries, whatever the sessions came to. Where they couldn't begin, the journal
 /// stays empty.
 fn run_over<'a, H: Shelf>(
     alloc: Global,
@@ -127,7 +136,9 @@ fn run_over<'a, H: Shelf>(
     book: &mut Book,
     shelf: &mut H,
 ) -> Ending<'a>
+    requires first { book.old.earlier ≡ [] }
     requires empty { book.old.entries ≡ [] }
+    requires pairs { length (names_of names.now).pairs ≤ PAIR_LIMIT }
     requires differ { Differ (names_of names.now) }
     ensures { HasRunOver (view H.held H.open_faults H.read_faults H.write_faults shelf.old)
         (view H.held H.open_faults H.read_faults H.write_faults shelf.new) (names_of names.now)
@@ -137,66 +148,61 @@ fn run_over<'a, H: Shelf>(
         Ok(journal) => journal,
         Err(fault) => return Ending::of_open(names.journal, fault),
     };
-    let served = match run_desk(alloc, names, book, shelf) {
-        Ok(served) => served,
+    match run_desks(alloc, names, book, shelf) {
         Err(ending) => {
             shelf.give_out(names.journal, journal);
-            return ending;
+            ending
         }
-    };
-    let entries = book.journal();
-    let written = write_journal(entries, &mut journal);
-    shelf.give_out(names.journal, journal);
-    Ending::of_served(names.input, names.output, entries.len() as u64, served).and_written(
-        names.journal,
-        written,
-    )
+        Ok(stop) => {
+            book.holds();
+            let entries = book.journal();
+            let written = write_journal(entries, &mut journal);
+            shelf.give_out(names.journal, journal);
+            let totals = Totals {
+                entries: entries.len() as u64,
+                work: book.tally(),
+            };
+            Ending::of_sessions(stop, totals).and_written(names.journal, written)
+        }
+    }
 }
 
-/// Opens the input, and serves its session.
-fn run_desk<'a, H: Shelf>(
+/// Opens the files of all pairs, serves their sessions, and gives the files back.
+fn run_desks<'a, H: Shelf>(
     alloc: Global,
     names: &RunWords<'a>,
     book: &mut Book,
     shelf: &mut H,
-) -> Result<Served, Ending<'a>>
-    requires { book.old.entries ≡ [] }
-    ensures kept { book.new.base ≡ book.old.base }
-    ensures unserved { OnErr result (book.new ≡ book.old) }
-    ensures desk { HasRunDesk (view H.held H.open_faults H.read_faults H.write_faults shelf.old)
-        (view H.held H.open_faults H.read_faults H.write_faults shelf.new) (names_of names.now)
-        book.old.base book.new.entries result }
-{
-    let mut source = match shelf.open_in(names.input) {
-        Ok(source) => source,
-        Err(fault) => return Err(Ending::of_open(names.input, fault)),
-    };
-    let served = serve_desk(alloc, names, book, shelf, &mut source);
-    shelf.give_in(names.input, source);
-    served
-}
-
-/// Makes the output, and serves the session of an input.
-fn serve_desk<'a, H: Shelf>(
-    alloc: Global,
-    names: &RunWords<'a>,
-    book: &mut Book,
-    shelf: &mut H,
-    source: &mut H::In,
-) -> Result<Served, Ending<'a>>
-    requires { book.old.entries ≡ [] }
-    ensures kept { book.new.base ≡ book.old.base }
-    ensures unserved { OnErr result (book.new ≡ book.old) }
-    ensures desk { HasServedDesk H.In.left H.In.faults H.In.label source.old source.new
+) -> Result<Option<Ending<'a>>, Ending<'a>>
+    requires first { book.old.earlier ≡ [] }
+    requires empty { book.old.entries ≡ [] }
+    requires pairs { length (names_of names.now).pairs ≤ PAIR_LIMIT }
+    ensures base { book.new.base ≡ book.old.base }
+    ensures first { book.new.earlier ≡ [] }
+    ensures ok { IfOk result (λ stop. HasServedAll book.old.base
         (view H.held H.open_faults H.read_faults H.write_faults shelf.old)
-        (view H.held H.open_faults H.read_faults H.write_faults shelf.new) (names_of names.now)
-        book.old.base book.new.entries result }
+        (view H.held H.open_faults H.read_faults H.write_faults shelf.new)
+        (names_of names.now).pairs book.new.entries (option_map outcome_of stop)) }
+    ensures err { IfErr result (λ ending.
+        HasServedNone (view H.held H.open_faults H.read_faults H.write_faults shelf.old)
+        (view H.held H.open_faults H.read_faults H.write_faults shelf.new)
+        (names_of names.now).pairs (outcome_of ending)) }
+    ensures unserved { OnErr result (book.new ≡ book.old) }
 {
-    let mut sink = match shelf.make_out(names.output) {
-        Ok(sink) => sink,
-        Err(fault) => return Err(Ending::of_open(names.output, fault)),
+    let pairs = names.pairs.as_slice();
+    let Ok(mut waiting) = VecDeque::with_capacity(alloc, pairs.len()) else {
+        return Err(Ending::Memory);
     };
-    let served = serve_alone(alloc, book, 1, true, source, &mut sink);
-    shelf.give_out(names.output, sink);
-    Ok(served)
+    match open_desks(pairs, shelf, &mut waiting) {
+        Ok(()) => {
+            let stop = serve_desks(alloc, 1, book, &mut waiting, shelf);
+            waiting.destroy_empty();
+            Ok(stop)
+        }
+        Err(ending) => {
+            close_desks(&mut waiting, shelf);
+            waiting.destroy_empty();
+            Err(ending)
+        }
+    }
 }

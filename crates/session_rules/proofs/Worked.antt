@@ -264,14 +264,15 @@ changes_are_read : requests_of (codes "HELLO ann\nDEL Baseline DEMAND A D1\nPOIN
 unfolding requests_within reading words_of command_of command_of_verb verb_of hello_of only_name del_of point_of quit_of key_of key_of_table row_words.two_names lines_of text_of_line name_at text_at end_at name_in is_name
 changes_are_read = refl
 
--- the table word of a bill is unknown so far, and what stands before it is looked at first
-bills_are_closed : requests_of (codes "PUT Baseline BILL\nDEL - BILL A B\nPLAN BILL BILL\n")
-    ≡ record { line = 1; wish = IsBad (bads.Field (record { field = 2; rule = rules.Shape })) }
+-- a bill is read as any other row, and what stands before the table is looked at first; a command that isn't served counts as none
+bills_are_read : requests_of (codes "PUT Baseline BILL\nDEL - BILL A B\nDEL Baseline BILL A D1\nCOST Baseline A\n")
+    ≡ record { line = 1; wish = IsBad (bads.Field (record { field = 3; rule = rules.Shape })) }
     ∷ record { line = 2; wish = IsBad (bads.Field (record { field = 1; rule = rules.Shape })) }
-    ∷ record { line = 3; wish = Asks (commands.Plan (codes "BILL") (codes "BILL")) }
+    ∷ record { line = 3; wish = Makes (changes.Del root (keys.Bill a (codes "D1"))) }
+    ∷ record { line = 4; wish = IsBad bads.Word }
     ∷ []
-unfolding requests_within reading words_of command_of command_of_verb verb_of put_of del_of plan_of two_names row_of row_of_table bill_of lines_of text_of_line name_at text_at end_at name_in is_name
-bills_are_closed = refl
+unfolding requests_within reading words_of command_of command_of_verb verb_of put_of del_of key_of key_of_table row_words.bill_key_of row_words.component_at row_words.two_names row_of row_of_table bill_of lines_of text_of_line name_at text_at end_at name_in is_name
+bills_are_read = refl
 
 -- entries and points of accepted changes -------------------------------------------------------------------------------------------------
 

@@ -8,9 +8,8 @@ use Rattle.plan_schema.specs.declared.key.Key.{Key}
 use Rattle.plan_schema.specs.declared.key.Record.{Record}
 use Rattle.plan_schema.specs.declared.change.Change.{Change}
 use Rattle.plan_schema.specs.declared.change.Change.TheVariants as changes
-use Rattle.plan_schema.specs.declared.fault.Rule.TheVariants.{Shape}
 use Rattle.plan_schema.specs.declared.fault.FieldFault.{FieldFault}
-use Rattle.closed_tables.specs.Open.{is_closed_word, open_row_of}
+use Rattle.row_text.specs.Row.{row_of}
 use Rattle.byte_lines.specs.Lines.{lines_of}
 use Rattle.command_words.specs.Words.{words_of, is_blank}
 use Rattle.command_words.specs.Changes.{change_of}
@@ -36,9 +35,9 @@ request_lines input = filter (λ line. not (is_blank_line line)) (enumerate_from
 
 -- commands ---------------------------------------------------------------------------------------------------------------
 
--- the command words that the program serves so far; every other first word counts as no command
-abbrev pub served_words : List (List ℕ)
-served_words = codes "HELLO" ∷ codes "POINT" ∷ codes "PUT" ∷ codes "DEL" ∷ codes "PLAN" ∷ codes "QUIT" ∷ []
+-- command words of the grammar that the program doesn't serve yet; each counts as no command
+abbrev pub unserved_words : List (List ℕ)
+unserved_words = codes "COST" ∷ codes "TRACE" ∷ []
 
 abbrev pub is_one_of : List (List ℕ) → List ℕ → Bool
 is_one_of words word = list_any (λ other. pointwise nat_eq word other) words
@@ -46,30 +45,16 @@ is_one_of words word = list_any (λ other. pointwise nat_eq word other) words
 -- whether the program serves the command that these words begin with
 abbrev pub is_served : List (List ℕ) → Bool
 is_served [] = false
-is_served (word ∷ words) = is_one_of served_words word
-
--- bills aren't served yet: the table word of a PUT or a DEL that is about one counts as unknown
-abbrev pub is_closed : List (List ℕ) → Bool
-is_closed [] = false
-is_closed (word ∷ words) = is_one_of (codes "PUT" ∷ codes "DEL" ∷ []) word && is_closed_word (slice_get words 1)
-
-abbrev pub table_fault : FieldFault
-table_fault = record { field = 2; rule = Shape }
-
--- what stands before an unknown table word is looked at first
-abbrev pub closed_fault : Result Command Bad → FieldFault
-closed_fault (Err (bads.Field fault)) = if nat_lt fault.field 2 then fault else table_fault
-closed_fault read = table_fault
+is_served (word ∷ words) = not (is_one_of unserved_words word)
 
 -- what these words are read as, where this is what the grammar makes of them
-abbrev pub open_reading : List (List ℕ) → Result Command Bad → Result Command Bad
-open_reading words read =
-    if is_served words then (if is_closed words then Err (bads.Field (closed_fault read)) else read) else Err bads.Word
+abbrev pub served_reading : List (List ℕ) → Result Command Bad → Result Command Bad
+served_reading words read = if is_served words then read else Err bads.Word
 
 -- what a line is read as: a command, or why it is none
 unfoldable pub reading : Line → Result Command Bad
 reading (number, None) = Err bads.Long
-reading (number, Some text) = open_reading (words_of text) (command_of text)
+reading (number, Some text) = served_reading (words_of text) (command_of text)
 
 -- requests ---------------------------------------------------------------------------------------------------------------
 
@@ -103,7 +88,7 @@ in_row k (Err fault) = Err (bads.Row k fault)
 
 abbrev pub row_reading : ℕ → Line → Result (Key × Record) Bad
 row_reading k (number, None) = Err (bads.RowLong k)
-row_reading k (number, Some text) = in_row k (open_row_of (words_of text))
+row_reading k (number, Some text) = in_row k (row_of (words_of text))
 
 abbrev pub fault_in : Result (Key × Record) Bad → Option Bad
 fault_in (Ok row) = None

@@ -1,15 +1,15 @@
-use Rattle.std.proofs.Common.{◌≡◌, ◌∙◌, Err, Some, sym, ap, subst}
+use Rattle.std.proofs.Common.{◌≡◌, ◌∙◌, Err, Some, refl, sym, ap, subst, inl}
 use Rattle.std.specs.Prelude.{OnOk}
 use Rattle.plan_schema.specs.Outside.{extended}
 use Rattle.plan_schema.specs.declared.outside.SinkFault.TheVariants as sinks
 use Rattle.plan_schema.proofs.Writes.{rose_after, rose_later}
 use Rattle.response_program.specs.Views.{view}
 use Rattle.response_program.specs.Outcomes.{outcome_of, and_written, status_of, console_line}
-use Rattle.response_program.specs.Runs.{names_of, console}
+use Rattle.response_program.specs.Names.{names_of, console}
 use Rattle.response_program.proofs.Chains.{opened, gave_out, both_fell, cause_later, cause_after, counted_rose}
-use Rattle.response_program.proofs.Desks.{kept_or_empty}
-use Rattle.response_program.proofs.Overs.{written_done, written_long, written_refused, written_of_base, written_opened, written_cause, written_told, written_cut}
-use Rattle.response_program.proofs.Headline.{still_done, still_short, held_tells}
+use Rattle.response_program.proofs.Named.{kept_then}
+use Rattle.response_program.proofs.Endings.{written_done, written_long, written_refused, written_of_base, written_opened, written_cause, written_told, written_cut}
+use Rattle.response_program.proofs.Headline.{done_over, short_over, too_long_over, made_tells}
 use Rattle.response_program.proofs.run.run_told.Goals as goal
 
 pub returns : goal.returns
@@ -27,7 +27,8 @@ returns g c =
     let before = both_fell old mid late making c.run-ending.ensures.none_fell in
     let failed = λ (is : written ≡ Err sinks.Failed). rose_after (old.writes console) (late.writes console) (new.writes console) (before.writes console)
     (counted_rose console late.writes new.writes (g.H.Out.Sink.faults c.in-Ok.console) (g.H.Out.Sink.faults c.tell-told.new.console) c.in-Ok.ensures.fresh (c.tell-told.ensures.cause.failed is) c.give_out.ensures.count) in
-    let apart = c.requires in
+    let apart = c.requires.differ in
+    let tells_mid = made_tells console old mid in
     record {
       outcome = final;
       status_is = c.status-2.ensures.value ∙ ap status_of c.and_written.ensures;
@@ -36,21 +37,18 @@ returns g c =
       others = λ name journal output other. c.give_out.ensures.others name other ∙ c.run-ending.ensures.others name journal output ∙ c.make_out.ensures.others name other;
       refused = λ fault is base base_is. c.run-ending.ensures.refused fault (written_refused outcome console written fault is) base (c.make_out.ensures.others names.base apart.base_console ∙ base_is);
       kept = λ is name other. c.give_out.ensures.others name other ∙ c.run-ending.ensures.kept (written_of_base names outcome console written is) name ∙ c.make_out.ensures.others name other;
-      opened_journal = λ failed is tells. kept_or_empty (c.make_out.ensures.others names.journal apart.journal_console) (c.give_out.ensures.others names.journal apart.journal_console)
-          (c.run-ending.ensures.opened_journal failed (written_opened outcome console written failed is) (held_tells old mid tells c.make_out.ensures.here c.make_out.ensures.others));
-      opened_output = λ failed is. kept_or_empty (c.make_out.ensures.others names.output apart.output_console) (c.give_out.ensures.others names.output apart.output_console)
-          (c.run-ending.ensures.opened_output failed (written_opened outcome console written failed is));
-      done = λ number is tells base input base_is input_is.
-          still_done mid old late new names base input number (c.give_out.ensures.others names.journal apart.journal_console) (c.give_out.ensures.others names.output apart.output_console)
-          (c.run-ending.ensures.done number (written_done outcome console written number is).0 (held_tells old mid tells c.make_out.ensures.here c.make_out.ensures.others) base input
-          (c.make_out.ensures.others names.base apart.base_console ∙ base_is) (c.make_out.ensures.others names.input apart.input_console ∙ input_is));
-      limit = λ is tells base input base_is input_is.
-          c.run-ending.ensures.limit (written_long outcome console written is) (held_tells old mid tells c.make_out.ensures.here c.make_out.ensures.others) base input
-          (c.make_out.ensures.others names.base apart.base_console ∙ base_is) (c.make_out.ensures.others names.input apart.input_console ∙ input_is);
-      cut = λ cut tells base input base_is input_is never.
-          still_short mid old late new names base input (c.give_out.ensures.others names.journal apart.journal_console) (c.give_out.ensures.others names.output apart.output_console)
-          (c.run-ending.ensures.cut (written_cut names outcome console written (λ same. apart.output_console (sym same)) cut) (held_tells old mid tells c.make_out.ensures.here c.make_out.ensures.others) base input
-          (c.make_out.ensures.others names.base apart.base_console ∙ base_is) (c.make_out.ensures.others names.input apart.input_console ∙ input_is)
+      opened = λ failed is tells name other.
+          kept_then (inl (c.make_out.ensures.others name other))
+          (kept_then (c.run-ending.ensures.opened failed (written_opened outcome console written failed is) (tells_mid tells c.make_out.ensures.here c.make_out.ensures.others) name) (inl (c.give_out.ensures.others name other)));
+      done = λ totals is tells.
+          done_over console old mid late new c.make_out.ensures.others c.give_out.ensures.others names apart.no_console apart.journal_console apart.base_console totals
+          (c.run-ending.ensures.done totals (written_done outcome console written totals is).0 (tells_mid tells c.make_out.ensures.here c.make_out.ensures.others));
+      limit = λ session is tells.
+          too_long_over console old mid late new c.make_out.ensures.others c.give_out.ensures.others names apart.no_console apart.journal_console apart.base_console session
+          (c.run-ending.ensures.limit session (written_long outcome console written session is) (tells_mid tells c.make_out.ensures.here c.make_out.ensures.others));
+      cut = λ cut tells never.
+          short_over console old mid late new c.make_out.ensures.others c.give_out.ensures.others names apart.no_console apart.journal_console apart.base_console
+          (c.run-ending.ensures.cut (written_cut names outcome console written (λ journal other. other refl) cut) (tells_mid tells c.make_out.ensures.here c.make_out.ensures.others)
           (λ rose. never (rose_later _ _ _ (rose_after _ _ _ (making.writes names.journal) rose) (giving.writes names.journal))));
       told = λ never tells opens writes.
           let both = written_told outcome console written never (λ is. writes (failed is)) in

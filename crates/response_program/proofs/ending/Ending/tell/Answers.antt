@@ -1,7 +1,7 @@
 use Rattle.std.proofs.Common.{◌∙◌, ap, sym, subst}
 use Rattle.plan_schema.specs.Outside.{Wrote}
 use Rattle.response_program.specs.Outcomes.{console_line, outcome_of}
-use Rattle.response_program.proofs.Tellings.{limit_line, open_line}
+use Rattle.response_program.proofs.Tellings.{open_line}
 use Rattle.response_program.proofs.ending.Ending.tell.Goals as goal
 
 pub returns-in-Done : goal.returns-in-Done
@@ -12,7 +12,3 @@ returns-in-Done g c =
 pub returns-in-Open : goal.returns-in-Open
 returns-in-Open g c =
     subst (λ text. Wrote g.K.Sink.taken g.K.Sink.faults g.K.Sink.label c.args.console.now c.tell_of.new.console text c.tell_of.result) (open_line c.in-Open.name.now ∙ ap (λ e. console_line (outcome_of e)) (sym c.in-Open.is)) c.tell_of.ensures
-
-pub returns-in-Limit : goal.returns-in-Limit
-returns-in-Limit g c =
-    subst (λ text. Wrote g.K.Sink.taken g.K.Sink.faults g.K.Sink.label c.args.console.now c.write_all-in-Limit.new.sink text c.write_all-in-Limit.result) (limit_line ∙ ap (λ e. console_line (outcome_of e)) (sym c.in-Limit.is)) c.write_all-in-Limit.ensures

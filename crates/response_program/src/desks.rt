@@ -1,0 +1,129 @@
+//! The desks of a run: opened in order, served one after the other, and closed.
+ghost use Rattle.std.specs.Prelude.{◌≡◌, ◌≤◌, ◌+◌, ◌-◌, ◌++◌, ◌∷◌, [], map, length, option_map, List, OnOk, IfErr};
+ghost use Rattle.std.specs.VecDeque.{deque_len, deque_capacity};
+ghost use Rattle.response_program.specs.Names.{pair_of};
+ghost use Rattle.response_program.specs.Outcomes.{outcome_of};
+ghost use Rattle.response_program.specs.Views.{view};
+ghost use Rattle.response_program.specs.Desks.{DeskView, Opens, StopsOpening, AreGivenBack, IsOneServed, AreDone};
+
+use crate::desk::{OpenDesk, close_desk, open_desk, serve_desk};
+use crate::ending::Ending;
+use crate::words::Pair;
+use byte_lines::{Shelf, Sink, Source};
+use plan_book::Book;
+use std::alloc::Global;
+use std::collections::VecDeque;
+
+/// Opens the files of pairs, in order, up to the first that can't be opened. There is room for the desks.
+pub fn open_desks<'a, H: Shelf>(
+    pairs: &[Pair<'a>],
+    shelf: &mut H,
+    waiting: &mut VecDeque<OpenDesk<'a, H::In, H::Out>>,
+) -> Result<(), Ending<'a>>
+    requires { length pairs.now ≤ deque_capacity waiting.old - deque_len waiting.old }
+    ensures ok { OnOk result ((opened : List DeskView)
+        × (waiting.new.items ≡ waiting.old.items ++ opened)
+        × Opens (view H.held H.open_faults H.read_faults H.write_faults shelf.old) (map pair_of pairs.now) opened
+        (view H.held H.open_faults H.read_faults H.write_faults shelf.new)) }
+    ensures err { IfErr result (λ ending. (opened : List DeskView)
+        × (waiting.new.items ≡ waiting.old.items ++ opened)
+        × StopsOpening (view H.held H.open_faults H.read_faults H.write_faults shelf.old) (map pair_of pairs.now) opened (outcome_of ending)
+        (view H.held H.open_faults H.read_faults H.write_faults shelf.new)) }
+{
+    match pairs.split_first() {
+        None => Ok(()),
+        Some((pair, rest)) => match open_desk(pair, shelf) {
+            Ok(desk) => {
+                put_desk(desk, waiting);
+                open_desks(rest, shelf, waiting)
+            }
+            Err(ending) => Err(ending),
+        },
+    }
+}
+
+/// Puts a desk behind others, where there is room for it.
+fn put_desk<'a, S: Source, K: Sink>(
+    desk: OpenDesk<'a, S, K>,
+    waiting: &mut VecDeque<OpenDesk<'a, S, K>>,
+)
+    requires { deque_len waiting.old + 1 ≤ deque_capacity waiting.old }
+    ensures items { waiting.new.items ≡ waiting.old.items ++ desk.entry ∷ [] }
+    ensures len { deque_len waiting.new ≡ deque_len waiting.old + 1 }
+    ensures room { deque_capacity waiting.old ≤ deque_capacity waiting.new }
+{
+    match waiting.push_back(desk) {
+        Ok(()) => (),
+        Err(_) => unreachable!(),
+    }
+}
+
+/// Serves the sessions of desks one after the other, the first with this number, up to the first that doesn't end, and gives back all
+/// files. Answers why that one didn't end.
+pub fn serve_desks<'a, H: Shelf>(
+    alloc: Global,
+    session: u64,
+    book: &mut Book,
+    waiting: &mut VecDeque<OpenDesk<'a, H::In, H::Out>>,
+    shelf: &mut H,
+) -> Option<Ending<'a>>
+    requires some { 1 ≤ session }
+    requires most { session + length waiting.old.items ≤ 17 }
+    requires first { book.old.earlier ≡ [] }
+    ensures base { book.new.base ≡ book.old.base }
+    ensures first { book.new.earlier ≡ [] }
+    ensures none { deque_len waiting.new ≡ 0 }
+    ensures done { AreDone book.old.base session book.old.entries book.new.entries waiting.old.items
+        (option_map outcome_of result) (view H.held H.open_faults H.read_faults H.write_faults shelf.old)
+        (view H.held H.open_faults H.read_faults H.write_faults shelf.new) }
+{
+    match waiting.pop_front() {
+        None => None,
+        Some(mut desk) => {
+            let stop = serve_one(alloc, session, book, &mut desk);
+            close_desk(desk, shelf);
+            match stop {
+                Some(ending) => {
+                    close_desks(waiting, shelf);
+                    Some(ending)
+                }
+                None => serve_desks(alloc, session + 1, book, waiting, shelf),
+            }
+        }
+    }
+}
+
+/// Serves the session of a desk, by its number. Answers why it didn't end, where it didn't.
+fn serve_one<'a, S: Source, K: Sink>(
+    alloc: Global,
+    session: u64,
+    book: &mut Book,
+    desk: &mut OpenDesk<'a, S, K>,
+) -> Option<Ending<'a>>
+    requires some { 1 ≤ session }
+    requires most { session ≤ 16 }
+    requires first { book.old.earlier ≡ [] }
+    ensures base { book.new.base ≡ book.old.base }
+    ensures first { book.new.earlier ≡ [] }
+    ensures served { IsOneServed book.old.base session book.old.entries book.new.entries desk.old
+        desk.new (option_map outcome_of result) }
+{
+    let pair = desk.pair();
+    let served = serve_desk(alloc, session, book, desk);
+    Ending::of_stop(&pair, session, served)
+}
+
+/// Gives the files of desks back.
+pub fn close_desks<H: Shelf>(waiting: &mut VecDeque<OpenDesk<'_, H::In, H::Out>>, shelf: &mut H)
+    ensures none { deque_len waiting.new ≡ 0 }
+    ensures given { AreGivenBack (view H.held H.open_faults H.read_faults H.write_faults shelf.old) waiting.old.items
+        (view H.held H.open_faults H.read_faults H.write_faults shelf.new) }
+{
+    match waiting.pop_front() {
+        None => (),
+        Some(desk) => {
+            close_desk(desk, shelf);
+            close_desks(waiting, shelf);
+        }
+    }
+}

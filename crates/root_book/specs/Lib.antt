@@ -1,7 +1,0 @@
-pub mod History
-pub mod Answers
-pub mod Kept
-pub use Rattle.plan_schema.specs.Outside
-pub use Rattle.scenario_rules.specs.Refused
-pub use Rattle.scenario_rules.specs.Journal
-pub use Rattle.turn_table.specs.Story

@@ -1,5 +1,0 @@
-use Rattle.root_sessions.proofs.planning.plan_over.Given as goal
-
--- the ledger of the step's counter is the one that its blank names
-abbrev pub ghosts-net_once : goal.ghosts-net_once
-ghosts-net_once a = record { name = a.blank.name; parts = a.blank.parts }

@@ -4,4 +4,4 @@
 mod step;
 
 pub use plan_schema::{NetFault, Outcome, Quantities};
-pub use step::{Input, net};
+pub use step::{Input, fill_short, net};

@@ -42,8 +42,8 @@ fn difference(asked: u64, there: u64) -> i64
     asked as i64 - there as i64
 }
 
-/// By how much each day falls short of safety, where nothing is planned.
-fn fill_short(short: &mut [i64], balance: u64, safety: u64, gross: &[u64], sched: &[u64])
+/// By how much each day falls short of safety, where nothing is planned, from what is on hand before the first.
+pub fn fill_short(short: &mut [i64], balance: u64, safety: u64, gross: &[u64], sched: &[u64])
     requires days { length gross.now ≤ 400 }
     requires same { length sched.now ≡ length gross.now }
     requires room { length short.old ≡ length gross.now }
@@ -258,20 +258,20 @@ fn exceeds_limit(numbers: &[u64]) -> bool
 /// The outcome of a part's step.
 pub fn net<L: Ledger>(
     alloc: Global,
-    input: &Input,
+    input: Input,
     steps: &mut Steps<L>,
 ) -> Result<Outcome, NetFault>
-    requires { IsWithin input.now }
-    ensures netted { IfOk result (λ o. Netted (given input.now) o.planned) }
-    ensures outcome { IfOk result (λ o. told o ≡ outcome_from (given input.now) o.planned) }
-    ensures fits { IfOk result (λ o. is_too_large (given input.now) o.planned ≡ false) }
+    requires { IsWithin input }
+    ensures netted { IfOk result (λ o. Netted (given input) o.planned) }
+    ensures outcome { IfOk result (λ o. told o ≡ outcome_from (given input) o.planned) }
+    ensures fits { IfOk result (λ o. is_too_large (given input) o.planned ≡ false) }
     ensures large { IfErr result (λ e. WhereLarge e ((p : List ℕ)
-        → Netted (given input.now) p
-        → IsTrue (is_too_large (given input.now) p))) }
+        → Netted (given input) p
+        → IsTrue (is_too_large (given input) p))) }
     ensures steps { steps.new ≡ steps.old + 1 }
 {
     steps.tick();
-    let days = plan_days(alloc, input)?;
+    let days = plan_days(alloc, &input)?;
     let Ok((release, late)) = release_days(
         alloc,
         &input.calendar,
@@ -283,16 +283,11 @@ pub fn net<L: Ledger>(
     if exceeds_limit(release.as_slice()) {
         return Err(NetFault::TooLarge);
     }
-    let Ok(gross) = input.gross.copy() else {
-        return Err(NetFault::Memory);
-    };
-    let Ok(sched) = input.sched.copy() else {
-        return Err(NetFault::Memory);
-    };
     let Ok(release) = Release::new(alloc, release) else {
         return Err(NetFault::Memory);
     };
     let Days { planned, balance } = days;
+    let Input { gross, sched, .. } = input;
     Ok(Outcome {
         gross,
         sched,

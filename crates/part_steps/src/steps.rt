@@ -96,7 +96,7 @@ pub fn step<L: Ledger>(
     ensures steps { OnOk result (steps.new ≡ steps.old + 1) }
 {
     match input(alloc, cell, name, start, calendar, days, releases) {
-        Ok(input) => net_input(alloc, &input, steps),
+        Ok(input) => net_input(alloc, input, steps),
         Err(NetFault::TooLarge) => {
             steps.tick();
             Ok(Known::TooLarge)
@@ -108,11 +108,11 @@ pub fn step<L: Ledger>(
 /// What an input's step comes to.
 fn net_input<L: Ledger>(
     alloc: Global,
-    input: &Input,
+    input: Input,
     steps: &mut Steps<L>,
 ) -> Result<Known, AllocError>
-    requires { IsWithin input.now }
-    ensures known { IfOk result (λ known. known_from (Some (given input.now)) ≡ Some known) }
+    requires { IsWithin input }
+    ensures known { IfOk result (λ known. known_from (Some (given input)) ≡ Some known) }
     ensures steps { steps.new ≡ steps.old + 1 }
 {
     match net(alloc, input, steps) {

@@ -8,5 +8,5 @@ mod steps;
 
 pub use calendars::calendar;
 pub use laws::steps_are_local;
-pub use records::horizon;
+pub use records::{horizon, record_in, stock_in};
 pub use steps::step;

@@ -47,5 +47,6 @@ answered base history user (commands.Level scenario part) some = refl
 answered base history user (commands.Plan scenario part) some = refl
 answered base history user (commands.Peg scenario part day) some = refl
 answered base history user (commands.Atp scenario part) some = refl
+answered base history user (commands.Cost scenario part) some = refl
 answered base history user (commands.Select scenario text) some = selected (world_after base history) (length history) user scenario (result_ok (query_of text))
 answered base history user _ some = cc

@@ -7,22 +7,23 @@ use Rattle.plan_schema.specs.declared.refusal.Refusal.TheVariants as refusals
 use Rattle.plan_schema.specs.declared.change.CellName.{CellName}
 use Rattle.plan_schema.specs.declared.change.CellName.TheVariants as names
 use Rattle.plan_schema.specs.Refusals.{first_of, where_so}
-use Rattle.plan_schema.specs.Contents.{Contents, is_ordered, cell_rows}
+use Rattle.plan_schema.specs.declared.key.Key.TheVariants as keys
+use Rattle.plan_schema.specs.Contents.{Contents, is_ordered, record_at, cell_rows}
 use Rattle.planning_rules.specs.Bills.{parents, level}
 use Rattle.planning_rules.specs.Days.{start_of, days_of}
 use Rattle.planning_rules.specs.Pegs.{pegs, no_day}
-use Rattle.planning_rules.specs.Plan.{plan, released}
+use Rattle.planning_rules.specs.Plan.{plan, released, stock_in}
 use Rattle.planning_rules.specs.Refused.{in_reach, level_refusal, plan_refusal}
 use Rattle.planning_rules.proofs.Membership.{IsIn}
 use Rattle.query_language.specs.declared.column.Column.{Column}
 use Rattle.query_language.specs.Trees.{CondTree, QueryTree}
 use Rattle.query_rules.specs.Lines.{select_line, select_lines}
-use Rattle.query_rules.specs.Queries.{asks_for_plan, column_value, is_selected, parts_of}
+use Rattle.query_rules.specs.Queries.{asks_for_plan, column_value, is_selected, parts_of, safety_in}
 use Rattle.row_text.specs.Spelling.{row_text}
 use Rattle.command_words.specs.declared.reply.Reply.TheVariants as replies
 use Rattle.walk_rules.specs.Cells.{Cells, records}
 use Rattle.walk_rules.specs.Steps.{Agree}
-use Rattle.walk_rules.proofs.Local.{same_cell, bills_same, start_same, days_same}
+use Rattle.walk_rules.proofs.Local.{same_cell, record_same, bills_same, start_same, days_same}
 use Rattle.walk_rules.proofs.PlanLocal.{plan_is_local}
 use Rattle.pegging.specs.Pegs.{pegs_by}
 use Rattle.pegging.proofs.Local.{pegs_own}
@@ -37,8 +38,9 @@ use Rattle.plan_jobs.proofs.Collecting.{is_job}
 use Rattle.plan_jobs.proofs.Gathering.{asked_reached, parent_reached, in_is}
 use Rattle.query_rows.specs.Rows.{value_by, meets_with}
 use Rattle.query_rows.proofs.Values.{value_is_from_cell, meets_from_cell}
+use Rattle.session_rules.specs.Costs.{part_costs, no_costs, unplanned_shortages, lines_of_costs}
 use Rattle.session_rules.specs.Answers.{lists_of, plan_lines, level_line, peg_line, promise_line, query_reply}
-use Rattle.plan_answer.specs.Asks.{Question, ShowsCell, TellsLevel, TellsPlan, Pegs, Promises, Selects}
+use Rattle.plan_answer.specs.Asks.{Question, ShowsCell, TellsLevel, TellsPlan, Pegs, Promises, TellsCosts, Selects}
 use Rattle.plan_answer.specs.Planned.{wants_of}
 use Rattle.plan_answer.specs.Replies.{reply_of}
 use Rattle.plan_answer.specs.Laws.{CollectedIsEnough}
@@ -96,6 +98,14 @@ module _ (c d : Contents) (part : Name) (alike : PlanAlike c (part ∷ []) d (pa
         ap (λ t. map peg_line (pegs d part (day - t))) start ∙ ap (map peg_line) (same_pegs (day - start_of c)) in
         λ i. query_reply point (first_of (alike.plan_refusals i ∷ outside i ∷ [])) (lines i)
 
+    cost_reply : (point : ℕ) → reply_of point d (TellsCosts part) ≡ reply_of point c (TellsCosts part)
+    cost_reply point =
+        let known : plan d part ≡ plan c part = alike.plans part reached in
+        let own : record_at d (keys.Part part) ≡ record_at c (keys.Part part) = record_same d c (keys.Part part) rows in
+        let stock : record_at d (keys.Stock part) ≡ record_at c (keys.Stock part) = record_same d c (keys.Stock part) rows in
+        λ i. query_reply point (first_of (alike.plan_refusals i ∷ no_costs part (part_costs (own i)) ∷ []))
+        (lines_of_costs (start i) (part_costs (own i)) (unplanned_shortages (stock_in (stock i)) (safety_in (own i)) (lists_of (known i))) (lists_of (known i)).planned)
+
 -- all parts ----------------------------------------------------------------------------------------------------------------------
 
 module _ (c d : Contents) (same : (name : CellName) → cell_rows d name ≡ cell_rows c name) (parts : parts_of d ≡ parts_of c) where
@@ -141,6 +151,7 @@ module _ (c : Contents) (ordered : is_ordered c ≡ true) (cells : Cells) where
   answered_alike (TellsPlan part) point k = plan_reply c (records cells) part (alike (wants.Part part) k refl) (rows_are (wants.Part part) k names.Plan refl) point
   answered_alike (Pegs part day) point k = peg_reply c (records cells) part (alike (wants.Part part) k refl) (rows_are (wants.Part part) k names.Plan refl) (of_part part k) point day
   answered_alike (Promises part) point k = promise_reply c (records cells) part (alike (wants.Part part) k refl) (rows_are (wants.Part part) k names.Plan refl) point
+  answered_alike (TellsCosts part) point k = cost_reply c (records cells) part (alike (wants.Part part) k refl) (rows_are (wants.Part part) k names.Plan refl) (of_part part k) point
   answered_alike (Selects query) point k =
       let same : (name : CellName) → cell_rows (records cells) name ≡ cell_rows c name = λ name. rows_are wants.All k name refl in
       let job = job_of wants.All k in

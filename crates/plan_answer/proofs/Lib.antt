@@ -5,6 +5,7 @@ pub mod Horizons
 pub mod Promising
 pub mod ParentLists
 pub mod OwnPegs
+pub mod Costing
 pub mod Settled
 pub mod Refusing
 pub mod Ended

@@ -4,3 +4,4 @@ pub mod Laws
 pub mod Planned
 pub mod ParentLists
 pub mod Settled
+pub mod Held

@@ -6,7 +6,7 @@ use Rattle.planning_rules.specs.Plan.{Known, plan, has_outcome}
 use Rattle.planning_rules.specs.Refused.{in_reach, plan_refusal}
 use Rattle.plan_jobs.specs.declared.job.Wanted.{Wanted}
 use Rattle.plan_jobs.specs.declared.job.Wanted.TheVariants as wants
-use Rattle.plan_answer.specs.Asks.{Question, ShowsCell, TellsLevel, TellsPlan, Pegs, Promises, Selects}
+use Rattle.plan_answer.specs.Asks.{Question, ShowsCell, TellsLevel, TellsPlan, Pegs, Promises, TellsCosts, Selects}
 
 -- what a question wants of its scenario
 abbrev pub wants_of : Question → Wanted
@@ -15,6 +15,7 @@ wants_of (TellsLevel part) = wants.Part part
 wants_of (TellsPlan part) = wants.Part part
 wants_of (Pegs part day) = wants.Part part
 wants_of (Promises part) = wants.Part part
+wants_of (TellsCosts part) = wants.Part part
 wants_of (Selects query) = wants.All
 
 -- the plan of the asked names isn't refused, and of each name in reach the plan is known, and it has an outcome

@@ -25,6 +25,8 @@ pub enum Ask {
     Peg(Name, Day),
     /// What can be promised of a part on each day.
     Atp(Name),
+    /// What the orders of a part with least-cost lots cost, and why no others cost less.
+    Cost(Name),
     /// The parts that meet a condition, with some of their figures.
     Select(Query),
 }
@@ -40,6 +42,7 @@ pub fn ask_of(alloc: Global, command: &Command<'_>) -> Result<Option<Ask>, Alloc
         Command::Plan { part, .. } => Some(Ask::Plan(*part)),
         Command::Peg { part, day, .. } => Some(Ask::Peg(*part, *day)),
         Command::Atp { part, .. } => Some(Ask::Atp(*part)),
+        Command::Cost { part, .. } => Some(Ask::Cost(*part)),
         Command::Select { query, .. } => Some(Ask::Select(query_in(alloc, query)?)),
         _ => None,
     })
@@ -59,7 +62,7 @@ pub fn uses_plan(ask: &Ask) -> bool
 {
     match ask {
         Ask::Show(_) | Ask::Level(_) => false,
-        Ask::Plan(_) | Ask::Peg(_, _) | Ask::Atp(_) => true,
+        Ask::Plan(_) | Ask::Peg(_, _) | Ask::Atp(_) | Ask::Cost(_) => true,
         Ask::Select(query) => needs_plan(query),
     }
 }

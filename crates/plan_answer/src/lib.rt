@@ -2,6 +2,7 @@
 #![tactic(auto)]
 
 mod ask;
+mod costs;
 mod laws;
 mod lines;
 mod pegged;

@@ -60,7 +60,7 @@ fn plan_line(start: &Day, outcome: &Outcome, day: u16) -> RowText
 
 /// Begins a line with the date of a day of the horizon.
 #[tactic(auto, unfolding(plan_schema::specs::Day::later))]
-fn push_date(text: &mut RowText, start: &Day, day: u16)
+pub(crate) fn push_date(text: &mut RowText, start: &Day, day: u16)
     requires empty { text.old.items ≡ [] }
     requires date { start.now + day < 36525 }
     ensures items { text.new.items ≡ day_text (start.now + day) }

@@ -7,6 +7,7 @@ ghost use Rattle.plan_answer.specs.Planned.{wants_of, ArePlanned};
 ghost use Rattle.plan_answer.specs.Replies.{reply_of};
 
 use crate::ask::Ask;
+use crate::costs::cost_reply;
 use crate::pegged::peg_reply;
 use crate::planned::{lines_of_plan, lines_of_promise, lines_of_query};
 use command_words::Reply;
@@ -40,6 +41,7 @@ pub fn from_plans<P: Plans>(
             let lines = lines_of_promise(alloc, job, plans, part)?;
             Ok(Reply::Rows(job.point, lines))
         }
+        Ask::Cost(part) => cost_reply(alloc, job, plans, part),
         Ask::Select(query) => {
             let lines = lines_of_query(alloc, job, plans, query)?;
             Ok(Reply::Rows(job.point, lines))

@@ -10,7 +10,7 @@ use command_words::{Bad, Command, read_words, words_in};
 use row_text::is_word;
 
 /// Command words of the grammar that aren't served yet.
-const UNSERVED: [&[u8]; 2] = [b"COST", b"TRACE"];
+const UNSERVED: [&[u8]; 1] = [b"TRACE"];
 
 /// What a line is read as, where a command that isn't served counts as none.
 #[tactic(auto, unfolding(session_rules::specs::Requests::reading))]

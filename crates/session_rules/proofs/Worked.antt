@@ -29,6 +29,7 @@ use Rattle.row_text.specs.Row.{name_at, name_in, text_at, end_at, row_of, row_of
 use Rattle.row_text.specs.Row as row_words
 use Rattle.session_rules.specs.Requests.{Makes, Asks, IsBad, Request, requests_of, requests_within, reading, guest}
 use Rattle.session_rules.specs.Runs.{accepted_entries, accepted_points}
+use Rattle.session_rules.specs.Costs.{lines_of_costs}
 use Rattle.session_rules.specs.Answers.{answer, change_answer}
 
 abbrev a : Name
@@ -265,7 +266,7 @@ unfolding requests_within reading words_of command_of command_of_verb verb_of he
 changes_are_read = refl
 
 -- a bill is read as any other row, and what stands before the table is looked at first; a command that isn't served counts as none
-bills_are_read : requests_of (codes "PUT Baseline BILL\nDEL - BILL A B\nDEL Baseline BILL A D1\nCOST Baseline A\n")
+bills_are_read : requests_of (codes "PUT Baseline BILL\nDEL - BILL A B\nDEL Baseline BILL A D1\nTRACE Baseline A\n")
     ≡ record { line = 1; wish = IsBad (bads.Field (record { field = 3; rule = rules.Shape })) }
     ∷ record { line = 2; wish = IsBad (bads.Field (record { field = 1; rule = rules.Shape })) }
     ∷ record { line = 3; wish = Makes (changes.Del root (keys.Bill a (codes "D1"))) }
@@ -287,3 +288,11 @@ the_accepted_one_is_entered = refl
 
 and_its_point_is_its_number : accepted_points two_asked two_answered ≡ 1 ∷ []
 and_its_point_is_its_number = refl
+
+-- costs ------------------------------------------------------------------------------------------------------------------------------
+
+-- four days that need 10, 60, 15 and 40, where an order costs 100 and a unit that waits for a day 1: orders of 85 and 40 cost the least
+costs_are_told : lines_of_costs 9193 (Some (100, 1)) (10 ∷ 70 ∷ 85 ∷ 125 ∷ []) (85 ∷ 0 ∷ 0 ∷ 40 ∷ [])
+    ≡ codes "cost 290" ∷ codes "2025-03-03 10 85 290" ∷ codes "2025-03-04 60 0 195" ∷ codes "2025-03-05 15 0 140" ∷ codes "2025-03-06 40 40 100" ∷ []
+unfolding day_text date_of digits
+costs_are_told = refl

@@ -7,17 +7,18 @@ use Rattle.plan_schema.specs.declared.refusal.Refusal.{Refusal}
 use Rattle.plan_schema.specs.declared.change.Change.{Change}
 use Rattle.plan_schema.specs.declared.change.Entry.{Entry}
 use Rattle.plan_schema.specs.Day.{day_text}
-use Rattle.plan_schema.specs.Contents.{Contents, cell_rows}
+use Rattle.plan_schema.specs.declared.key.Key.TheVariants as keys
+use Rattle.plan_schema.specs.Contents.{Contents, record_at, cell_rows}
 use Rattle.plan_schema.specs.Refusals.{first_of}
 use Rattle.row_text.specs.Spelling.{words_text, row_text, calendar_text}
 use Rattle.query_language.specs.Trees.{QueryTree}
 use Rattle.query_language.specs.Growing.{query_of}
 use Rattle.query_rules.specs.Lines.{select_lines}
-use Rattle.query_rules.specs.Queries.{query_refusal}
+use Rattle.query_rules.specs.Queries.{query_refusal, safety_in}
 use Rattle.planning_rules.specs.Bills.{level}
 use Rattle.planning_rules.specs.Days.{start_of, days_of}
 use Rattle.planning_rules.specs.Netting.{Lists}
-use Rattle.planning_rules.specs.Plan.{Known, Planned, plan}
+use Rattle.planning_rules.specs.Plan.{Known, Planned, plan, stock_in}
 use Rattle.planning_rules.specs.Refused.{plan_refusal, level_refusal}
 use Rattle.planning_rules.specs.Pegs.{Peg, FromDemand, FromParent, pegs, no_day}
 use Rattle.planning_rules.specs.Promise.{promise_on}
@@ -28,6 +29,7 @@ use Rattle.command_words.specs.declared.command.Command.{Command}
 use Rattle.command_words.specs.declared.command.Command.TheVariants as commands
 use Rattle.command_words.specs.declared.reply.Reply.{Reply}
 use Rattle.command_words.specs.declared.reply.Reply.TheVariants as replies
+use Rattle.session_rules.specs.Costs.{part_costs, no_costs, unplanned_shortages, lines_of_costs}
 
 -- lines of replies -------------------------------------------------------------------------------------------------------
 
@@ -72,6 +74,17 @@ tree_line (name, x) =
 abbrev pub level_line : Name → Option ℕ → List ℕ
 level_line name code = words_text (name ∷ decimal (unwrap_or code 0) ∷ [])
 
+-- why a part has no costs to tell, and the lines of what its planned orders cost
+abbrev pub costs_refusal : Contents → Name → Option Refusal
+costs_refusal c part = no_costs part (part_costs (record_at c (keys.Part part)))
+
+abbrev pub costs_lines : Contents → Name → List (List ℕ)
+costs_lines c part =
+    let lists = lists_of (plan c part) in
+    let stock = stock_in (record_at c (keys.Stock part)) in
+    let short = unplanned_shortages stock (safety_in (record_at c (keys.Part part))) lists in
+    lines_of_costs (start_of c) (part_costs (record_at c (keys.Part part))) short lists.planned
+
 -- answers ----------------------------------------------------------------------------------------------------------------
 
 -- a query at a point: the first refusal that applies, or its lines
@@ -108,6 +121,9 @@ module _ (world : World) (point : ℕ) (user scenario : Name) where
   abbrev pub promise_answer : Contents → Name → Option Reply
   promise_answer c part = query_answer (plan_refusal c (part ∷ [])) (map (promise_line (start_of c) (lists_of (plan c part))) (range_with_len 0 (days_of c)))
 
+  abbrev pub cost_answer : Contents → Name → Option Reply
+  cost_answer c part = query_answer (first_of (plan_refusal c (part ∷ []) ∷ costs_refusal c part ∷ [])) (costs_lines c part)
+
   -- a text that is no query is answered nothing
   abbrev pub select_answer : Contents → Option QueryTree → Option Reply
   select_answer c None = None
@@ -135,6 +151,9 @@ answer base history user (commands.Peg scenario part day) =
 answer base history user (commands.Atp scenario part) =
     let world = world_after base history in
     promise_answer world (length history) user scenario (contents_in world scenario) part
+answer base history user (commands.Cost scenario part) =
+    let world = world_after base history in
+    cost_answer world (length history) user scenario (contents_in world scenario) part
 answer base history user (commands.Select scenario text) =
     let world = world_after base history in
     select_answer world (length history) user scenario (contents_in world scenario) (result_ok (query_of text))

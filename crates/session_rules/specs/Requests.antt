@@ -37,7 +37,7 @@ request_lines input = filter (λ line. not (is_blank_line line)) (enumerate_from
 
 -- command words of the grammar that the program doesn't serve yet; each counts as no command
 abbrev pub unserved_words : List (List ℕ)
-unserved_words = codes "COST" ∷ codes "TRACE" ∷ []
+unserved_words = codes "TRACE" ∷ []
 
 abbrev pub is_one_of : List (List ℕ) → List ℕ → Bool
 is_one_of words word = list_any (λ other. pointwise nat_eq word other) words

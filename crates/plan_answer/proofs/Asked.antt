@@ -22,7 +22,7 @@ use Rattle.command_words.specs.declared.command.Command.TheVariants as commands
 use Rattle.plan_jobs.specs.declared.job.Wanted.{Wanted}
 use Rattle.plan_jobs.specs.declared.job.Wanted.TheVariants as wants
 use Rattle.session_rules.specs.Answers.{answer, query_reply}
-use Rattle.plan_answer.specs.Asks.{Question, ShowsCell, TellsLevel, TellsPlan, Pegs, Promises, Selects, question_of, wanted_by}
+use Rattle.plan_answer.specs.Asks.{Question, ShowsCell, TellsLevel, TellsPlan, Pegs, Promises, TellsCosts, Selects, question_of, wanted_by}
 use Rattle.plan_answer.specs.Planned.{wants_of}
 use Rattle.plan_answer.specs.Replies.{question_refusal, question_lines}
 use Rattle.plan_answer.specs.Laws.{reply_in, AskedIsAnswered, BarredIsAnswered, RefusedIsAnswered}
@@ -51,6 +51,7 @@ same_want (commands.Level s part) scenario wanted question w q = sym (pair_insid
 same_want (commands.Plan s part) scenario wanted question w q = sym (pair_inside (s, wants.Part part) (scenario, wanted) w) ∙ ap wants_of (inside (TellsPlan part) question q)
 same_want (commands.Peg s part day) scenario wanted question w q = sym (pair_inside (s, wants.Part part) (scenario, wanted) w) ∙ ap wants_of (inside (Pegs part day) question q)
 same_want (commands.Atp s part) scenario wanted question w q = sym (pair_inside (s, wants.Part part) (scenario, wanted) w) ∙ ap wants_of (inside (Promises part) question q)
+same_want (commands.Cost s part) scenario wanted question w q = sym (pair_inside (s, wants.Part part) (scenario, wanted) w) ∙ ap wants_of (inside (TellsCosts part) question q)
 same_want (commands.Select s text) scenario wanted question w q = sym (pair_inside (s, wants.All) (scenario, wanted) w) ∙ selects (result_ok (query_of text)) question q
 same_want _ scenario wanted question w q = absurd (let never : ⊥ = cc in never)
 

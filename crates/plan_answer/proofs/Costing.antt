@@ -1,27 +1,45 @@
 -- What is planned of a part with least-cost lots is the best list for what the part falls short of.
-use Rattle.std.proofs.Common.{◌≡◌, ℕ, zero, suc, ◌+◌, ◌<◌, ◌≤◌, List, [], ◌∷◌, length, map, refl, sym, ◌∙◌, ap, subst, arith, Bool, true, false, cond}
+use Rattle.std.proofs.Common.{inl, ◌≡◌, ℕ, zero, suc, ◌+◌, ◌<◌, ◌≤◌, List, [], ◌∷◌, length, map, refl, sym, ◌∙◌, ap, subst, arith, Bool, true, false, cond}
 use Rattle.std.proofs.lemmas.List.Elements.{All-from_recursion}
 use Rattle.std.specs.Prelude.{Option, Some, None, All}
+use Rattle.std.specs.Option.{option_map}
 use Rattle.std.specs.List.{AllByRecursion, list_all, range_with_len}
 use Rattle.plan_schema.specs.declared.name.Name.{Name}
 use Rattle.plan_schema.specs.declared.key.Lot.{Lot}
 use Rattle.plan_schema.specs.declared.key.Lot.TheVariants as lots
+use Rattle.plan_schema.specs.declared.change.CellName.TheVariants as names
+use Rattle.plan_schema.specs.declared.key.Key.{Key}
 use Rattle.plan_schema.specs.declared.key.Key.TheVariants as keys
 use Rattle.plan_schema.specs.declared.key.Record.{Record}
 use Rattle.plan_schema.specs.declared.key.Record.TheVariants as rows_of_table
-use Rattle.plan_schema.specs.Contents.{Contents, record_at}
+use Rattle.plan_schema.specs.Key.{cell_of}
+use Rattle.plan_schema.specs.Contents.{Contents, record_at, cell_rows}
 use Rattle.planning_rules.specs.BestLots.{needs, best}
 use Rattle.planning_rules.specs.Bills.{parents}
-use Rattle.planning_rules.specs.Days.{days_of, works}
+use Rattle.planning_rules.specs.Days.{start_of, days_of, horizon_of, works}
 use Rattle.planning_rules.specs.Netting.{Input, Lists, limit, planned_of, outcome_from, is_too_large}
 use Rattle.planning_rules.specs.Plan.{Known, Planned, Large, has_outcome, gross_of, sched_of, has_calendar, stock_in, input_of, known_from, plan}
 use Rattle.planning_rules.proofs.PlanLaws.{plan_is_step}
 use Rattle.planning_rules.proofs.PlannedBest.{planned_is_best}
+use Rattle.planning_rules.specs.Refused.{in_reach}
+use Rattle.planning_rules.proofs.Membership.{contained_in}
 use Rattle.query_rules.specs.Queries.{safety_in}
+use Rattle.record_versions.specs.declared.version.VersionId.{VersionId}
+use Rattle.walk_rules.specs.Cells.{Cells, records, held}
+use Rattle.walk_rules.proofs.Local.{record_here}
+use Rattle.explosion.specs.Sums.{sched_by}
+use Rattle.explosion.proofs.Own.{sched_own}
+use Rattle.plan_jobs.specs.declared.job.Wanted.{Wanted}
+use Rattle.plan_jobs.specs.Jobs.{IsJob}
+use Rattle.plan_jobs.proofs.Gathering.{asked_reached}
+use Rattle.walk_names.proofs.JobCells.{HeldCell, held_cell}
 use Rattle.lot_optimal.specs.declared.rows.CostRow.{CostRow}
 use Rattle.lot_optimal.specs.Costs.{rows_of}
-use Rattle.session_rules.specs.Answers.{lists_of}
-use Rattle.session_rules.specs.Costs.{lot_costs, part_costs, unplanned_shortages}
+use Rattle.lot_optimal.proofs.Filled.{length_needs}
+use Rattle.session_rules.specs.Answers.{lists_of, costs_lines}
+use Rattle.session_rules.specs.Costs.{lot_costs, part_costs, unplanned_shortages, lines_of_costs}
+use Rattle.plan_answer.specs.Planned.{ArePlanned}
+use Rattle.plan_answer.specs.Held.{rows_held}
 use Rattle.plan_answer.proofs.OwnPegs.{map_long, plan_gross}
 
 -- the lists of a part that is planned -----------------------------------------------------------------------------------------------
@@ -33,8 +51,13 @@ record ListsOf (c : Contents) (n : Name) (record_of : Option Record) (o : Lists)
   best : (setup hold : ℕ) → part_costs record_of ≡ Some (setup, hold)
       → o.planned ≡ best setup hold (needs (unplanned_shortages (stock_in (record_at c (keys.Stock n))) (safety_in record_of) o))
 
+rule_of : Option (ℕ × ℕ) → Lot
+rule_of None = lots.Exact
+rule_of (Some costs) = lots.Best costs.0 costs.1
+
 best_rule : (lot : Lot) (setup hold : ℕ) → lot_costs lot ≡ Some (setup, hold) → lot ≡ lots.Best setup hold
-best_rule (lots.Best s h) setup hold is = cc
+unfolding rule_of
+best_rule (lots.Best s h) setup hold is = ap rule_of is
 best_rule _ setup hold is = absurd (let never : ⊥ = cc in never)
 
 from_input : (c : Contents) (n : Name) (lead : ℕ) (lot : Lot) (safety : ℕ) (calendar : Option Name) (x : Input) (o : Lists)
@@ -74,13 +97,13 @@ planned_lists c n o is = by_parents (list_all (λ p. has_outcome (plan c p)) (pa
     by_parents true k = from_record c n (record_at c (keys.Part n)) o k
     by_parents false k = absurd (let never : ⊥ = cc in never)
 
-module _ (c : Contents) (n : Name) (o : Lists) (is : plan c n ≡ Some (Planned o)) where
-  range_long : (a k : ℕ) → length (range_with_len a k) ≡ k
-  range_long a zero = refl
-  range_long a (suc k) = ap suc (range_long (a + 1) k)
+all_days : (a k : ℕ) → length (range_with_len a k) ≡ k
+all_days a zero = refl
+all_days a (suc k) = ap suc (all_days (a + 1) k)
 
+module _ (c : Contents) (n : Name) (o : Lists) (is : plan c n ≡ Some (Planned o)) where
   pub gross_long : length o.gross ≡ days_of c
-  gross_long = ap length (planned_lists c n o is).gross ∙ map_long _ (range_with_len 0 (days_of c)) ∙ range_long 0 (days_of c)
+  gross_long = ap length (planned_lists c n o is).gross ∙ map_long _ (range_with_len 0 (days_of c)) ∙ all_days 0 (days_of c)
 
   pub gross_small : All (λ qty. qty ≤ 1_000_000_000_000_000) o.gross
   gross_small = subst (All (λ qty. qty ≤ 1_000_000_000_000_000)) (sym (planned_lists c n o is).gross) (All-from_recursion (λ qty. qty ≤ 1_000_000_000_000_000) (gross_of (plan c) c n) (plan_gross c n o is))
@@ -89,7 +112,7 @@ module _ (c : Contents) (n : Name) (o : Lists) (is : plan c n ≡ Some (Planned 
   sched_is = sym (planned_lists c n o is).sched
 
   pub sched_long : length o.sched ≡ length o.gross
-  sched_long = ap length (planned_lists c n o is).sched ∙ map_long _ (range_with_len 0 (days_of c)) ∙ range_long 0 (days_of c) ∙ sym gross_long
+  sched_long = ap length (planned_lists c n o is).sched ∙ map_long _ (range_with_len 0 (days_of c)) ∙ all_days 0 (days_of c) ∙ sym gross_long
 
   pub orders_best : (setup hold : ℕ) → part_costs (record_at c (keys.Part n)) ≡ Some (setup, hold)
       → o.planned ≡ best setup hold (needs (unplanned_shortages (stock_in (record_at c (keys.Stock n))) (safety_in (record_at c (keys.Part n))) o))
@@ -107,3 +130,52 @@ rows_within setup hold day (suc n ∷ wants) (q ∷ orders) most h = (omega arit
 
 pub rows_in_days : (setup hold : ℕ) (wants orders : List ℕ) (most : ℕ) → length wants ≡ most → All (λ (row : CostRow). row.at < most) (rows_of setup hold 0 wants orders)
 rows_in_days setup hold wants orders most h = All-from_recursion (λ (row : CostRow). row.at < most) (rows_of setup hold 0 wants orders) (rows_within setup hold 0 wants orders most (omega arith))
+
+-- a part that is planned, by its cell -------------------------------------------------------------------------------------------------
+
+found_rows : (o : Option (VersionId × Contents)) (rows : Contents) → option_map (λ cell. cell.1) o ≡ Some rows → (id : VersionId) × (o ≡ Some (id, rows))
+found_rows None rows h = absurd (let never : ⊥ = cc in never)
+found_rows (Some (id, own)) rows h = (id, cc)
+
+module _ (wanted : Wanted) (cells : Cells) (n : Name) (plans : Name → Option Known) (job : IsJob wanted cells) (planned : ArePlanned (records cells) (n ∷ []) plans)
+    (rows : Contents) (there : rows_held cells (names.Part n) ≡ Some rows) where
+  pub own_cell : HeldCell cells (names.Part n) rows
+  own_cell = let found = found_rows (held cells (names.Part n)) rows there in held_cell wanted cells (names.Part n) found.0 rows job found.1
+
+  own_row : (key : Key) → cell_rows (records cells) (cell_of key) ≡ rows → record_at rows key ≡ record_at (records cells) key
+  own_row key is = ap (λ rs. record_at rs key) (sym is) ∙ record_here (records cells) key
+
+  pub part_row : record_at rows (keys.Part n) ≡ record_at (records cells) (keys.Part n)
+  part_row = own_row (keys.Part n) own_cell.rows_are
+
+  pub stock_row : record_at rows (keys.Stock n) ≡ record_at (records cells) (keys.Stock n)
+  stock_row = own_row (keys.Stock n) own_cell.rows_are
+
+  module _ (o : Lists) (is : plans n ≡ Some (Planned o)) where
+    pub plan_is : plan (records cells) n ≡ Some (Planned o)
+    plan_is = sym (planned.right n (contained_in (in_reach (records cells) (n ∷ [])) n (asked_reached (records cells) (n ∷ []) n (inl refl)))) ∙ is
+
+    pub sched_told : (start days : ℕ) → (start, days) ≡ horizon_of (record_at (records cells) keys.Plan) → sched_by rows start days ≡ o.sched
+    sched_told start days horizon =
+        (λ i. sched_by (sym own_cell.rows_are i) (horizon i).0 (horizon i).1) ∙ sched_own (records cells) n ∙ sched_is (records cells) n o plan_is
+
+    module _ (rule : ℕ × ℕ) (stock safety : ℕ) (costs : part_costs (record_at rows (keys.Part n)) ≡ Some rule) (stocked : stock ≡ stock_in (record_at rows (keys.Stock n)))
+        (safe : safety ≡ safety_in (record_at rows (keys.Part n))) where
+      pub orders_told : o.planned ≡ best rule.0 rule.1 (needs (unplanned_shortages stock safety o))
+      orders_told =
+          orders_best (records cells) n o plan_is rule.0 rule.1 (ap part_costs (sym part_row) ∙ costs)
+          ∙ (λ i. best rule.0 rule.1 (needs (unplanned_shortages (sym (stocked ∙ ap stock_in stock_row) i) (sym (safe ∙ ap safety_in part_row) i) o)))
+
+      pub lines_told : (start : ℕ) → start ≡ start_of (records cells) → lines_of_costs start (Some rule) (unplanned_shortages stock safety o) o.planned ≡ costs_lines (records cells) n
+      lines_told start at =
+          let stock_is = stocked ∙ ap stock_in stock_row in
+          let safety_is = safe ∙ ap safety_in part_row in
+          let rule_is = sym costs ∙ ap part_costs part_row in
+          λ i. lines_of_costs (at i) (rule_is i) (unplanned_shortages (stock_is i) (safety_is i) (lists_of (sym plan_is i))) (lists_of (sym plan_is i)).planned
+
+pub needs_in_days : (setup hold stock safety : ℕ) (o : Lists) (orders : List ℕ) (days : ℕ) → length o.gross ≡ days
+    → (rows : List CostRow) → rows ≡ rows_of setup hold 0 (needs (unplanned_shortages stock safety o)) orders → All (λ (row : CostRow). row.at < days) rows
+needs_in_days setup hold stock safety o orders days long rows is =
+    let short = unplanned_shortages stock safety o in
+    let all : length (needs short) ≡ days = length_needs 0 short ∙ map_long _ (range_with_len 0 (length o.gross)) ∙ all_days 0 (length o.gross) ∙ long in
+    subst (All (λ (row : CostRow). row.at < days)) (sym is) (rows_in_days setup hold (needs short) orders days all)

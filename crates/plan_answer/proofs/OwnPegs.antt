@@ -45,7 +45,7 @@ are_releases days [] h k l = absurd (omega arith)
 are_releases days (list ∷ lists) h zero l = (h.0.0, small_at list h.0.1)
 are_releases days (list ∷ lists) h (suc k) l = are_releases days lists h.1 k (omega arith)
 
-map_long : {A B : Type 0} (f : A → B) (xs : List A) → length (map f xs) ≡ length xs
+pub map_long : {A B : Type 0} (f : A → B) (xs : List A) → length (map f xs) ≡ length xs
 map_long f [] = refl
 map_long f (x ∷ xs) = ap suc (map_long f xs)
 
@@ -87,7 +87,7 @@ input_gross c n gross (Some (rows_of.Part lead lot safety calendar)) o h = by_ca
     by_calendar false x same k = let never : ⊥ = cc in absurd never
 input_gross c n gross _ o h = let never : ⊥ = cc in absurd never
 
-plan_gross : (c : Contents) (n : Name) (o : Lists) → plan c n ≡ Some (Planned o) → AllByRecursion (λ qty. qty ≤ limit) (gross_of (plan c) c n)
+pub plan_gross : (c : Contents) (n : Name) (o : Lists) → plan c n ≡ Some (Planned o) → AllByRecursion (λ qty. qty ≤ limit) (gross_of (plan c) c n)
 plan_gross c n o h = all_small (gross_of (plan c) c n) (by_parents (list_all (λ p. has_outcome (plan c p)) (parents c n)) (sym (plan_is_step c n) ∙ h))
   where
     by_parents : (b : Bool) → cond b (known_from (input_of c n (gross_of (plan c) c n) (record_at c (keys.Part n)))) None ≡ Some (Planned o) → exceeds (gross_of (plan c) c n) ≡ false

@@ -22,7 +22,7 @@ use Rattle.plan_jobs.specs.Jobs.{asked_by, wants_plan}
 use Rattle.walk_names.specs.declared.trouble.Trouble.{Trouble}
 use Rattle.walk_names.specs.declared.trouble.Trouble.TheVariants as troubles
 use Rattle.walk_names.specs.Names.{IsTrouble}
-use Rattle.plan_answer.specs.Asks.{Question, ShowsCell, TellsLevel, TellsPlan, Pegs, Promises, Selects, question_of, wanted_by, asks_for_plan}
+use Rattle.plan_answer.specs.Asks.{Question, ShowsCell, TellsLevel, TellsPlan, Pegs, Promises, TellsCosts, Selects, question_of, wanted_by, asks_for_plan}
 use Rattle.plan_answer.specs.Planned.{wants_of}
 use Rattle.plan_answer.specs.Replies.{reply_of}
 use Rattle.plan_core.specs.State.{State, history}
@@ -50,6 +50,7 @@ has_question (commands.Level scenario part) want sound is = (TellsLevel part, re
 has_question (commands.Plan scenario part) want sound is = (TellsPlan part, refl)
 has_question (commands.Peg scenario part day) want sound is = (Pegs part day, refl)
 has_question (commands.Atp scenario part) want sound is = (Promises part, refl)
+has_question (commands.Cost scenario part) want sound is = (TellsCosts part, refl)
 has_question (commands.Select scenario text) want sound is =
     let one = and_parts (is_name scenario) (is_query_text text && is_query text) sound in
     let two = and_parts (is_query_text text) (is_query text) one.1 in
@@ -63,6 +64,7 @@ wants_its_plan (TellsLevel part) uses = absurd (let never : ⊥ = cc in never)
 wants_its_plan (TellsPlan part) uses = refl
 wants_its_plan (Pegs part day) uses = refl
 wants_its_plan (Promises part) uses = refl
+wants_its_plan (TellsCosts part) uses = refl
 wants_its_plan (Selects query) uses = refl
 
 -- at a book ------------------------------------------------------------------------------------------------------------------------

@@ -1,0 +1,5 @@
+pub mod Built
+pub mod Steps
+pub mod Seen
+pub mod Taken
+pub mod Cuts

@@ -1,0 +1,4 @@
+pub mod Cut
+pub mod Rounds
+pub mod Words
+pub mod Parser

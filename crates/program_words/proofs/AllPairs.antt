@@ -1,5 +1,5 @@
 -- The pairs of all rounds.
-use Rattle.std.proofs.Common.{◌≡◌, ◌∙◌, List, [], ◌∷◌, ◌++◌, Bool, true, false, map, refl, ap, if◌then◌else◌}
+use Rattle.std.proofs.Common.{◌≡◌, ◌∙◌, List, [], ◌∷◌, Bool, true, false, map, refl, ap, if◌then◌else◌}
 use Rattle.std.specs.List.{onto_first}
 use Rattle.program_words.specs.declared.rounds.PlacedPair.{PlacedPair}
 use Rattle.program_words.specs.Rounds.{Pair, pair_of, rounds_in, all_pairs}

@@ -7,7 +7,7 @@ use Rattle.clap.specs.Walk.{rows_of}
 use Rattle.clap.specs.Matches.{found_of}
 use Rattle.clap.specs.declared.parser.matches.ArgMatches.{ArgMatches}
 use Rattle.clap.proofs.WalkLemmas.{raw_values-rows}
-use Rattle.program_words.specs.Cut.{Cut, cut_words}
+use Rattle.program_words.specs.Cut.{cut_words}
 use Rattle.program_words.specs.Parser.{app, cut_of, cut_of_rows}
 use Rattle.program_words.proofs.Taken.{AreUtf8, answer, cut-taken}
 use Rattle.std.proofs.Common.{codes}

@@ -1,9 +1,9 @@
 -- What the parser sees in a word of each kind.
 use lib.Utf8.{encode}
-use Rattle.std.proofs.Common.{if◌then◌else◌, take, ◌+◌, suc, ◌≡◌, ◌≢◌, ◌∙◌, ◌∷◌, ◌++◌, [], ℕ, ◌==◌, List, Bool, true, false, ap, refl, sym, subst, length, codes, Option, Some, None, inl, inr, ◌⊎◌, IsUtf8, slice_get, encode_utf8_all, rules, arith}
+use Rattle.std.proofs.Common.{if◌then◌else◌, take, ◌+◌, suc, ◌≡◌, ◌∙◌, ◌∷◌, ◌++◌, [], ℕ, ◌==◌, Bool, true, false, ap, refl, sym, subst, length, codes, Option, Some, None, inl, inr, ◌⊎◌, IsUtf8, slice_get, encode_utf8_all, rules, arith}
 use Rattle.std.specs.List.{before_first, position_or_len}
 use Rattle.std.specs.Str.{bytes_eq, chars}
-use Rattle.std.specs.Cmp.Lexicographic.{same_text, bytes_decides}
+use Rattle.std.specs.Cmp.Lexicographic.{same_text}
 use Rattle.std.proofs.lemmas.Bool.{cases_Bool}
 use Rattle.std.proofs.lemmas.Bool.Decides.{nat_tests}
 use Rattle.std.proofs.lemmas.Str.{encodes-chars}
@@ -90,11 +90,11 @@ long-refused : (x : ℕ) (xs : Text) → bytes_eq (45 ∷ 45 ∷ x ∷ xs) (code
 long-refused x xs alone valued h w skip =
     elim (cases_Bool (bytes_eq (codes "memo") (before_first (λ b. b == 61) (x ∷ xs)))) [
       | inl same ↦ (
-        let memo : codes "memo" ≡ before_first (λ b. b == 61) (x ∷ xs) = same_text _ _ (sym same) in
-        elim (before-is (x ∷ xs)) [
-          | inl whole ↦ (let bad : true ≡ false = ap (λ l. bytes_eq (45 ∷ 45 ∷ l) (codes "--memo")) (memo ∙ sym whole) ∙ alone in cc)
-          | inr cut ↦ (let bad : Some cut.0 ≡ None = ap (λ l. behind (codes "--memo=") (45 ∷ 45 ∷ l)) (ap (λ l. l ++ 61 ∷ cut.0) memo ∙ sym cut.1) ∙ valued in cc)
-        ])
+          let memo : codes "memo" ≡ before_first (λ b. b == 61) (x ∷ xs) = same_text _ _ (sym same) in
+          elim (before-is (x ∷ xs)) [
+            | inl whole ↦ (let bad : true ≡ false = ap (λ l. bytes_eq (45 ∷ 45 ∷ l) (codes "--memo")) (memo ∙ sym whole) ∙ alone in cc)
+            | inr cut ↦ (let bad : Some cut.0 ≡ None = ap (λ l. behind (codes "--memo=") (45 ∷ 45 ∷ l)) (ap (λ l. l ++ 61 ∷ cut.0) memo ∙ sym cut.1) ∙ valued in cc)
+          ])
       | inr other ↦ unknown-fault (45 ∷ 45 ∷ x ∷ xs) (before_first (λ b. b == 61) (x ∷ xs)) _ h w refl refl other
     ]
 

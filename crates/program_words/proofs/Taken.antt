@@ -1,22 +1,21 @@
 -- The parser takes the words that can be cut, and finds in them what they are cut into.
-use Rattle.std.proofs.Common.{◌≡◌, ◌∙◌, ◌∷◌, ◌++◌, [], ℕ, List, Bool, ap, ap₂, refl, sym, subst, codes, true, false, Option, Some, None, IsUtf8, fold, if◌then◌else◌, inl, inr}
-use Rattle.std.specs.Prelude.{◌&&◌, ◌||◌, unwrap_or, option_map, find, is_some}
+use Rattle.std.proofs.Common.{◌≡◌, ◌∙◌, ◌∷◌, ◌++◌, [], List, Bool, ap, ap₂, refl, sym, subst, codes, true, false, Option, Some, None, IsUtf8, fold, if◌then◌else◌, inl, inr}
+use Rattle.std.specs.Prelude.{◌||◌, unwrap_or, option_map, is_some}
 use Rattle.std.specs.List.{AllByRecursion}
 use Rattle.std.specs.Str.{bytes_eq}
 use Rattle.std.specs.Cmp.Lexicographic.{same_text}
 use Rattle.std.proofs.lemmas.Bool.{cases_Bool}
 use Rattle.std.proofs.lemmas.List.{append_assoc, append-nil}
 use Rattle.clap.specs.Words.{Text, Row, Kinds, all_of, fault_of, matches_of}
-use Rattle.clap.specs.Walk.{Held, Walk, Waiting, idle, option, positional, with_values, has_row, with_default, settled, walked, walk, finished, reacted, nothing_held, walk_from}
+use Rattle.clap.specs.Walk.{Held, Walk, Waiting, idle, positional, with_values, settled, walked, walk, finished, reacted, nothing_held, walk_from}
 use Rattle.clap.specs.Faults.{turn_fault, settle_fault, defaults_fault, check_fault, walk_fault, entered_fault, level_fault}
-use Rattle.clap.specs.Simple.{built, entered, names_of}
+use Rattle.clap.specs.Simple.{built, entered}
 use Rattle.clap.specs.Kinds.{or_else}
 use Rattle.clap.specs.declared.builder.value_parser.Reading.{Reading}
 use Rattle.clap.specs.declared.error.kind.ErrorKind.TheVariants as kind
 use Rattle.clap.specs.declared.parser.matches.ValueSource.{ValueSource}
-use Rattle.clap.proofs.OnLiterals.{clap_on_literals}
 use Rattle.program_words.specs.Cut.{Cut, Kind, ends, takes_next, has, unknown, name, kind_of, with_memo, with_name, cut_value, cut_at, cut_words}
-use Rattle.program_words.specs.Parser.{app, row_values, cut_of_rows}
+use Rattle.program_words.specs.Parser.{app, cut_of_rows}
 use Rattle.program_words.proofs.Steps.{shape, at, memo, wanted, named, name-fault, name-fault-more, name-walk, name-walk-more, behind-fault, behind-walk, end-fault, end-walk, memo-walk, memo-fault, memo_is-walk, memo_is-fault, value-walk, value-fault}
 use Rattle.program_words.proofs.Seen.{Seen, IsName, seen}
 

@@ -1,5 +1,5 @@
 -- Which words name files, and which names differ.
-use Rattle.std.specs.Prelude.{ℕ, Bool, true, false, not, ◌&&◌, List, [], ◌∷◌, codes, bytes_eq}
+use Rattle.std.specs.Prelude.{ℕ, Bool, true, not, ◌&&◌, List, [], ◌∷◌, codes, bytes_eq}
 use Rattle.std.specs.List.{list_all, list_any}
 use Rattle.program_words.specs.Rounds.{Pair, all_pairs}
 use Rattle.program_words.specs.declared.names.RoundWords.{RoundWords}

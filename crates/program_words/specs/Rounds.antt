@@ -1,6 +1,6 @@
 -- Pairs of files, in rounds.
-use Rattle.std.specs.Prelude.{ℕ, ◌+◌, nat_le, Bool, true, false, List, [], ◌∷◌, length, codes, bytes_eq, if◌then◌else◌, Option, Some, None, option_map}
-use Rattle.std.specs.List.{onto_first, flat_map}
+use Rattle.std.specs.Prelude.{ℕ, ◌+◌, ◌==◌, nat_le, Bool, true, false, List, [], ◌∷◌, length, codes, bytes_eq, if◌then◌else◌, Option, Some, None, option_map}
+use Rattle.std.specs.List.{onto_first, flat_map, list_all}
 use Rattle.program_words.specs.declared.rounds.PlacedPair.{PlacedPair}
 use Rattle.program_words.specs.declared.rounds.TheConstants.{PAIR_LIMIT}
 
@@ -50,3 +50,7 @@ rounds_of words = rounds_from (placed_pairs words)
 -- the pairs of all rounds
 abbrev pub all_pairs : List (List Pair) → List Pair
 all_pairs rounds = flat_map (λ round. round) rounds
+
+-- the sessions of a run are served one after the other
+abbrev pub have_one_pair_each : List (List Pair) → Bool
+have_one_pair_each rounds = list_all (λ round. length round == 1) rounds

@@ -9,10 +9,7 @@ use clap::{Arg, ArgAction, ArgMatches, Command};
 use std::alloc::Global;
 
 /// The values of `--memo`, by the id `memo`, and all other words, by the id `names`.
-pub(crate) fn cut_words<'a>(
-    alloc: Global,
-    words: &'a [String],
-) -> Result<ArgMatches<'a>, WordFault>
+pub(crate) fn cut_words<'a>(alloc: Global, words: &'a [String]) -> Result<ArgMatches<'a>, WordFault>
     ensures ok { IfOk result (λ matches.
         spec.cut_words (map string_bytes words.entry.now) false ≡ Some (cut_of matches)) }
     ensures err { result ≡ Err WordFault.Words

@@ -58,5 +58,8 @@ pub enum Still<'a> {
         input: Word<'a>,
     },
     /// Such a base and input, served without files.
-    Trial { parts: u32, start: u64 },
+    Trial {
+        parts: u32,
+        start: u64,
+    },
 }

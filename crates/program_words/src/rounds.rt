@@ -57,14 +57,30 @@ impl<'a> Pairs<'a> {
     {
         self.pairs.as_slice()
     }
+
+    /// Whether each round has one pair.
+    pub fn have_one_pair_each(&self) -> bool
+        ensures { result ≡ spec.have_one_pair_each self.now }
+    {
+        end_rounds(self.pairs.as_slice())
+    }
+}
+
+/// Whether a round ends with each pair but the last, with which one ends anyway.
+#[tactic(auto, unfolding(crate::specs::Rounds::rounds_in), using(crate::proofs::OneEach::none_more))]
+fn end_rounds(pairs: &[PlacedPair<'_>]) -> bool
+    ensures { result ≡ spec.have_one_pair_each (rounds_in pairs.now) }
+{
+    match pairs {
+        [] => true,
+        [_] => true,
+        [pair, rest @ ..] => pair.ends_round && end_rounds(rest),
+    }
 }
 
 /// The pairs `IN OUT` that words name, in rounds.
 #[tactic(auto, unfolding(crate::specs::Rounds::rounds_of), using(crate::proofs::Behind::rounds_read, crate::proofs::Behind::rounds_unread))]
-pub(crate) fn read_rounds<'a>(
-    alloc: Global,
-    names: &[&'a str],
-) -> Result<Pairs<'a>, WordFault>
+pub(crate) fn read_rounds<'a>(alloc: Global, names: &[&'a str]) -> Result<Pairs<'a>, WordFault>
     ensures ok { IfOk result (λ rounds.
         spec.rounds_of (map (λ name. name.now) names.now) ≡ Some rounds) }
     ensures words { result ≡ Err WordFault.Words

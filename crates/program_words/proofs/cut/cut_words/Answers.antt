@@ -1,7 +1,5 @@
-use Rattle.std.proofs.Common.{rules, ◌≡◌, ◌∙◌, map, string_bytes, ap, sym, false, [], None}
+use Rattle.std.proofs.Common.{rules, ◌∙◌, map, string_bytes, ap, sym}
 use Rattle.clap.specs.Words.{fault_of, matches_of, app_of, App, is_simple, is_simple_and_free}
-use Rattle.program_words.specs.Cut.{cut_words}
-use Rattle.program_words.specs.Parser.{app}
 use Rattle.program_words.proofs.Built.{bare_from, app_from, app-simple, app-free, has-fault}
 use Rattle.program_words.proofs.Cuts.{cut-accepted, cut-refused}
 use Rattle.program_words.proofs.cut.cut_words.Goals as goal
@@ -22,5 +20,5 @@ returns c =
     record {
       ok = tt;
       err = λ _. cut-refused c.args.words.now (λ none. has-fault (fault_of (app_of c.in-Ok-arg.command) (map string_bytes c.args.words.now)) c.in-Err.error why (λ memory. c.in_default-kind.not-OutOfMemory (c.kind.ensures ∙ memory))
-        (ap (λ (a : App). fault_of a (map string_bytes c.args.words.now)) is ∙ none));
+          (ap (λ (a : App). fault_of a (map string_bytes c.args.words.now)) is ∙ none));
     }

@@ -1,6 +1,7 @@
 pub mod Tellings
 pub mod Chains
 pub mod Named
+pub mod Asked
 pub mod NamesApart
 pub mod Opened
 pub mod Served
@@ -16,5 +17,4 @@ pub mod Overs
 pub mod Queues
 pub mod Done
 pub mod Memory
-pub mod Pairs
 pub mod Unmade

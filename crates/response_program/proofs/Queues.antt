@@ -3,8 +3,8 @@ use Rattle.std.proofs.Common.{◌≡◌, ◌+◌, ◌≤◌, List, [], ◌∷◌
 use Rattle.std.specs.Prelude.{OnOk, IfErr, map}
 use Rattle.std.specs.Option.{option_to_list}
 use Rattle.std.proofs.lemmas.List.{length-append}
-use Rattle.response_program.specs.declared.words.Pair.{Pair as PairWords}
-use Rattle.response_program.specs.Names.{Pair, pair_of}
+use Rattle.program_words.specs.declared.rounds.PlacedPair.{PlacedPair}
+use Rattle.program_words.specs.Rounds.{Pair, pair_of}
 use Rattle.response_program.specs.Views.{View}
 use Rattle.response_program.specs.Desks as desks
 use Rattle.response_program.specs.Desks.{DeskView, Opens}
@@ -37,10 +37,10 @@ opens_length : (old new : View) (pairs : List Pair) (ds : List DeskView) → Ope
 opens_length _ _ _ _ (desks.none shelf) = refl
 opens_length _ _ _ _ (desks.more old between new pair desk pairs ds h rest) = (let more = opens_length between new pairs ds rest in omega (arith, more))
 
-pub few_desks : (old new : View) (all pairs : List PairWords) (ds before after : List DeskView) → Opens old (map pair_of pairs) ds new → after ≡ before ++ ds → before ≡ [] → pairs ≡ all
-    → length (map pair_of all) ≤ 16 → 1 + length after ≤ 17
-few_desks old new all pairs ds before after opens is none same few =
+pub few_desks : (old new : View) (pairs : List PlacedPair) (ds before after : List DeskView) → Opens old (map pair_of pairs) ds new → after ≡ before ++ ds → before ≡ []
+    → length (map pair_of pairs) ≤ 16 → 1 + length after ≤ 17
+few_desks old new pairs ds before after opens is none few =
     let sum = ap length is ∙ length-append before ds in
     let zero_before = ap length none in
-    let as_many = opens_length old new (map pair_of pairs) ds opens ∙ ap (λ ps. length (map pair_of ps)) same in
+    let as_many = opens_length old new (map pair_of pairs) ds opens in
     omega (arith, few, sum, zero_before, as_many)

@@ -1,15 +1,14 @@
 -- The names of a run's files.
 use Rattle.std.specs.Prelude.{◌≢◌, ℕ, List, [], ◌∷◌, map, codes}
 use Rattle.std.specs.List.{AllByRecursion}
-use Rattle.response_program.specs.declared.words.Pair.{Pair as PairWords}
-use Rattle.response_program.specs.declared.words.RunWords.{RunWords}
+pub use Rattle.program_words.specs.Rounds.{Pair}
+use Rattle.program_words.specs.Rounds.{all_pairs}
+use Rattle.program_words.specs.Rounds as words
+use Rattle.program_words.specs.declared.program.RunWords.{RunWords}
+use Rattle.response_program.specs.declared.files.Pair.{Pair as PairWords}
+use Rattle.response_program.specs.declared.files.RunFiles.{RunFiles}
 
--- the input and the output of a session
-pub record Pair : Type 0 where
-  pub input : List ℕ
-  pub output : List ℕ
-
--- the base, the journal, and a pair for each round
+-- the base, the journal, and the pairs of all rounds
 pub record Names : Type 0 where
   pub base : List ℕ
   pub journal : List ℕ
@@ -19,7 +18,10 @@ abbrev pub pair_of : PairWords → Pair
 pair_of words = record { input = words.input.now; output = words.output.now }
 
 abbrev pub names_of : RunWords → Names
-names_of words = record { base = words.base.now; journal = words.journal.now; pairs = map pair_of words.pairs.items }
+names_of run = record { base = run.base; journal = run.journal; pairs = all_pairs run.rounds }
+
+abbrev pub files_of : RunFiles → Names
+files_of files = record { base = files.base.now; journal = files.journal.now; pairs = map words.pair_of files.pairs.now }
 
 -- the console's name
 abbrev pub console : List ℕ

@@ -7,7 +7,7 @@ ghost use Rattle.response_program.specs.Views.{view};
 ghost use Rattle.response_program.specs.Desks.{IsOpened, IsUnopened, IsGivenBack, HasServed};
 
 use crate::ending::Ending;
-use crate::words::Pair;
+use crate::files::Pair;
 use byte_lines::{Served, Shelf, Sink, Source};
 use plan_book::Book;
 use sessions::serve_alone;

@@ -1,22 +1,23 @@
 //! The desks of a run: opened in order, served one after the other, and closed.
 ghost use Rattle.std.specs.Prelude.{◌≡◌, ◌≤◌, ◌+◌, ◌-◌, ◌++◌, ◌∷◌, [], map, length, option_map, List, OnOk, IfErr};
 ghost use Rattle.std.specs.VecDeque.{deque_len, deque_capacity};
-ghost use Rattle.response_program.specs.Names.{pair_of};
+ghost use Rattle.program_words.specs.Rounds.{pair_of};
 ghost use Rattle.response_program.specs.Outcomes.{outcome_of};
 ghost use Rattle.response_program.specs.Views.{view};
 ghost use Rattle.response_program.specs.Desks.{DeskView, Opens, StopsOpening, AreGivenBack, IsOneServed, AreDone};
 
 use crate::desk::{OpenDesk, close_desk, open_desk, serve_desk};
 use crate::ending::Ending;
-use crate::words::Pair;
+use crate::files::Pair;
 use byte_lines::{Shelf, Sink, Source};
 use plan_book::Book;
+use program_words::PlacedPair;
 use std::alloc::Global;
 use std::collections::VecDeque;
 
 /// Opens the files of pairs, in order, up to the first that can't be opened. There is room for the desks.
 pub fn open_desks<'a, H: Shelf>(
-    pairs: &[Pair<'a>],
+    pairs: &[PlacedPair<'a>],
     shelf: &mut H,
     waiting: &mut VecDeque<OpenDesk<'a, H::In, H::Out>>,
 ) -> Result<(), Ending<'a>>
@@ -32,7 +33,7 @@ pub fn open_desks<'a, H: Shelf>(
 {
     match pairs.split_first() {
         None => Ok(()),
-        Some((pair, rest)) => match open_desk(pair, shelf) {
+        Some((placed, rest)) => match open_desk(&Pair::of(placed), shelf) {
             Ok(desk) => {
                 put_desk(desk, waiting);
                 open_desks(rest, shelf, waiting)

@@ -6,7 +6,7 @@ ghost use Rattle.response_program.specs.Names.{pair_of};
 ghost use Rattle.response_program.specs.Outcomes.{outcome_of};
 ghost use Rattle.arrayvec.specs.ArrayVec.{array_vec_len};
 
-use crate::words::Pair;
+use crate::files::Pair;
 use byte_lines::{Served, ShelfFault, Sink, SinkFault, write_all};
 use command_words::{room_bytes, rule_bytes};
 use plan_import::ImportFault;

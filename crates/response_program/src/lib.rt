@@ -4,7 +4,7 @@
 mod desk;
 mod desks;
 mod ending;
+mod files;
 mod run;
-mod words;
 
 pub use run::response;

@@ -1,23 +1,26 @@
 //! A run: sessions over a base, one after the other.
-ghost use Rattle.std.specs.Prelude.{◌≡◌, ◌≤◌, [], OnErr, IfOk, IfErr, true, false, map, length, option_map, string_bytes};
+ghost use Rattle.std.specs.Prelude.{◌≡◌, ◌≤◌, [], OnErr, IfOk, IfErr, None, Some, true, map, length, option_map, string_bytes};
 ghost use Rattle.plan_schema.specs.Base.{is_base};
 ghost use Rattle.response_program.specs.Views.{view};
 ghost use Rattle.response_program.specs.Outcomes.{outcome_of};
-ghost use Rattle.response_program.specs.declared.words.TheConstants.{PAIR_LIMIT};
-ghost use Rattle.response_program.specs.Names.{Differ, names_of};
+ghost use Rattle.program_words.specs.declared.program.RunWords.{RunWords as Run};
+ghost use Rattle.program_words.specs.declared.rounds.TheConstants.{PAIR_LIMIT};
+ghost use Rattle.program_words.specs.Words.{program_of};
+ghost use Rattle.response_program.specs.Names.{Differ, files_of, names_of};
 ghost use Rattle.response_program.specs.Desks.{HasServedAll, HasServedNone};
 ghost use Rattle.response_program.specs.Runs.{HasRun, HasRunBook, HasRunOver};
-ghost use Rattle.response_program.specs.Words.{is_run, names_in};
+ghost use Rattle.response_program.specs.Words.{served_by, served_run};
 ghost use Rattle.response_program.specs.Responses.{HasResponded, HasRefused};
 
 use crate::desks::{close_desks, open_desks, serve_desks};
 use crate::ending::{Ending, Totals};
-use crate::words::{RunWords, WordFault, read_words};
+use crate::files::RunFiles;
 use byte_lines::{Shelf, ShelfFault, SinkFault, write_all};
 use plan_book::{Book, PlanBook};
 use plan_import::import;
 use plan_journal::write_journal;
 use plan_schema::Contents;
+use program_words::{Program, RunWords, WordFault, read_words};
 use std::alloc::Global;
 use std::collections::VecDeque;
 
@@ -30,25 +33,40 @@ const WORDS: u8 = 2;
 /// The status of want of memory.
 const NO_MEMORY: u8 = 1;
 
-/// How many pairs the memo has.
-const MEMO_PAIRS: u32 = 16_384;
-
 /// Does what the words ask for with the files of a shelf, tells the console how it ended, and answers the status: 0 where all ended,
 /// 1 for want of memory, 2 where the words aren't the program's, 3 where the base is refused, 4, 5 and 6 where a file couldn't be
 /// opened, read and written, and 7 where the input passed its limit.
 pub fn response<H: Shelf>(alloc: Global, words: &[String], shelf: &mut H) -> u8
-    ensures run { is_run (map string_bytes words.now) ≡ true
+    ensures run { (run : Run) → served_run (program_of (map string_bytes words.now)) ≡ Some run
         → HasResponded (view H.held H.open_faults H.read_faults H.write_faults shelf.old)
-        (view H.held H.open_faults H.read_faults H.write_faults shelf.new)
-        (names_in (map string_bytes words.now)) result }
-    ensures words { is_run (map string_bytes words.now) ≡ false
+        (view H.held H.open_faults H.read_faults H.write_faults shelf.new) (names_of run) result }
+    ensures words { served_run (program_of (map string_bytes words.now)) ≡ None
         → HasRefused (view H.held H.open_faults H.read_faults H.write_faults shelf.old)
         (view H.held H.open_faults H.read_faults H.write_faults shelf.new) result }
 {
     match read_words(alloc, words) {
-        Ok(names) => run_told(alloc, &names, shelf),
+        Ok(program) => match run_of(program) {
+            Some(run) => run_told(alloc, run.memo, &RunFiles::of(&run), shelf),
+            None => refuse(shelf),
+        },
         Err(WordFault::Words) => refuse(shelf),
         Err(WordFault::Memory) => NO_MEMORY,
+    }
+}
+
+/// The run that is asked for, where its sessions come one after the other: nothing else is served so far.
+fn run_of(program: Program<'_>) -> Option<RunWords<'_>>
+    ensures { result ≡ served_by program.entry }
+{
+    match program {
+        Program::Run(run) => {
+            if run.rounds.have_one_pair_each() {
+                Some(run)
+            } else {
+                None
+            }
+        }
+        Program::Keep(_) | Program::Still(_) => None,
     }
 }
 
@@ -71,29 +89,38 @@ fn refuse<H: Shelf>(shelf: &mut H) -> u8
 }
 
 /// A run, with the console told how it ended.
-fn run_told<H: Shelf>(alloc: Global, names: &RunWords<'_>, shelf: &mut H) -> u8
-    requires pairs { length (names_of names.now).pairs ≤ PAIR_LIMIT }
-    requires differ { Differ (names_of names.now) }
+fn run_told<H: Shelf>(alloc: Global, memo: u32, names: &RunFiles<'_, '_>, shelf: &mut H) -> u8
+    requires memo { 1 ≤ memo }
+    requires most { memo ≤ 65536 }
+    requires pairs { length (files_of names.now).pairs ≤ PAIR_LIMIT }
+    requires differ { Differ (files_of names.now) }
     ensures { HasResponded (view H.held H.open_faults H.read_faults H.write_faults shelf.old)
-        (view H.held H.open_faults H.read_faults H.write_faults shelf.new) (names_of names.now)
+        (view H.held H.open_faults H.read_faults H.write_faults shelf.new) (files_of names.now)
         result }
 {
     let mut console = match shelf.make_out(CONSOLE) {
         Ok(console) => console,
         Err(fault) => return Ending::of_open(CONSOLE, fault).status(),
     };
-    let ending = run(alloc, names, shelf);
+    let ending = run(alloc, memo, names, shelf);
     let told = ending.tell(&mut console);
     shelf.give_out(CONSOLE, console);
     ending.and_written(CONSOLE, told).status()
 }
 
 /// Reads the base, and runs over it.
-fn run<'a, H: Shelf>(alloc: Global, names: &RunWords<'a>, shelf: &mut H) -> Ending<'a>
-    requires pairs { length (names_of names.now).pairs ≤ PAIR_LIMIT }
-    requires differ { Differ (names_of names.now) }
+fn run<'a, H: Shelf>(
+    alloc: Global,
+    memo: u32,
+    names: &RunFiles<'_, 'a>,
+    shelf: &mut H,
+) -> Ending<'a>
+    requires memo { 1 ≤ memo }
+    requires most { memo ≤ 65536 }
+    requires pairs { length (files_of names.now).pairs ≤ PAIR_LIMIT }
+    requires differ { Differ (files_of names.now) }
     ensures { HasRun (view H.held H.open_faults H.read_faults H.write_faults shelf.old)
-        (view H.held H.open_faults H.read_faults H.write_faults shelf.new) (names_of names.now)
+        (view H.held H.open_faults H.read_faults H.write_faults shelf.new) (files_of names.now)
         (outcome_of result) }
 {
     let mut source = match shelf.open_in(names.base) {
@@ -103,7 +130,7 @@ fn run<'a, H: Shelf>(alloc: Global, names: &RunWords<'a>, shelf: &mut H) -> Endi
     let imported = import(alloc, &mut source);
     shelf.give_in(names.base, source);
     match imported {
-        Ok(contents) => run_book(alloc, names, contents, shelf),
+        Ok(contents) => run_book(alloc, memo, names, contents, shelf),
         Err(fault) => Ending::of_import(names.base, fault),
     }
 }
@@ -111,18 +138,21 @@ fn run<'a, H: Shelf>(alloc: Global, names: &RunWords<'a>, shelf: &mut H) -> Endi
 /// Begins a book with the records of the base, and runs over it.
 fn run_book<'a, H: Shelf>(
     alloc: Global,
-    names: &RunWords<'a>,
+    memo: u32,
+    names: &RunFiles<'_, 'a>,
     contents: Contents,
     shelf: &mut H,
 ) -> Ending<'a>
     requires base { is_base contents ≡ true }
-    requires pairs { length (names_of names.now).pairs ≤ PAIR_LIMIT }
-    requires differ { Differ (names_of names.now) }
+    requires memo { 1 ≤ memo }
+    requires most { memo ≤ 65536 }
+    requires pairs { length (files_of names.now).pairs ≤ PAIR_LIMIT }
+    requires differ { Differ (files_of names.now) }
     ensures { HasRunBook (view H.held H.open_faults H.read_faults H.write_faults shelf.old)
-        (view H.held H.open_faults H.read_faults H.write_faults shelf.new) (names_of names.now)
+        (view H.held H.open_faults H.read_faults H.write_faults shelf.new) (files_of names.now)
         contents (outcome_of result) }
 {
-    match Book::begin(alloc, contents, MEMO_PAIRS) {
+    match Book::begin(alloc, contents, memo) {
         Ok(mut book) => run_over(alloc, names, &mut book, shelf),
         Err(_) => Ending::Memory,
     }
@@ -132,16 +162,16 @@ fn run_book<'a, H: Shelf>(
 /// stays empty.
 fn run_over<'a, H: Shelf>(
     alloc: Global,
-    names: &RunWords<'a>,
+    names: &RunFiles<'_, 'a>,
     book: &mut Book,
     shelf: &mut H,
 ) -> Ending<'a>
     requires first { book.old.earlier ≡ [] }
     requires empty { book.old.entries ≡ [] }
-    requires pairs { length (names_of names.now).pairs ≤ PAIR_LIMIT }
-    requires differ { Differ (names_of names.now) }
+    requires pairs { length (files_of names.now).pairs ≤ PAIR_LIMIT }
+    requires differ { Differ (files_of names.now) }
     ensures { HasRunOver (view H.held H.open_faults H.read_faults H.write_faults shelf.old)
-        (view H.held H.open_faults H.read_faults H.write_faults shelf.new) (names_of names.now)
+        (view H.held H.open_faults H.read_faults H.write_faults shelf.new) (files_of names.now)
         book.old.base book.new.entries (outcome_of result) }
 {
     let mut journal = match shelf.make_out(names.journal) {
@@ -170,26 +200,26 @@ fn run_over<'a, H: Shelf>(
 /// Opens the files of all pairs, serves their sessions, and gives the files back.
 fn run_desks<'a, H: Shelf>(
     alloc: Global,
-    names: &RunWords<'a>,
+    names: &RunFiles<'_, 'a>,
     book: &mut Book,
     shelf: &mut H,
 ) -> Result<Option<Ending<'a>>, Ending<'a>>
     requires first { book.old.earlier ≡ [] }
     requires empty { book.old.entries ≡ [] }
-    requires pairs { length (names_of names.now).pairs ≤ PAIR_LIMIT }
+    requires pairs { length (files_of names.now).pairs ≤ PAIR_LIMIT }
     ensures base { book.new.base ≡ book.old.base }
     ensures first { book.new.earlier ≡ [] }
     ensures ok { IfOk result (λ stop. HasServedAll book.old.base
         (view H.held H.open_faults H.read_faults H.write_faults shelf.old)
         (view H.held H.open_faults H.read_faults H.write_faults shelf.new)
-        (names_of names.now).pairs book.new.entries (option_map outcome_of stop)) }
+        (files_of names.now).pairs book.new.entries (option_map outcome_of stop)) }
     ensures err { IfErr result (λ ending.
         HasServedNone (view H.held H.open_faults H.read_faults H.write_faults shelf.old)
         (view H.held H.open_faults H.read_faults H.write_faults shelf.new)
-        (names_of names.now).pairs (outcome_of ending)) }
+        (files_of names.now).pairs (outcome_of ending)) }
     ensures unserved { OnErr result (book.new ≡ book.old) }
 {
-    let pairs = names.pairs.as_slice();
+    let pairs = names.pairs;
     let Ok(mut waiting) = VecDeque::with_capacity(alloc, pairs.len()) else {
         return Err(Ending::Memory);
     };

@@ -1,7 +1,7 @@
 use Rattle.std.proofs.Common.{◌∙◌}
 use Rattle.response_program.specs.Views.{view}
 use Rattle.response_program.specs.Outcomes.{outcome_of}
-use Rattle.response_program.specs.Names.{names_of}
+use Rattle.response_program.specs.Names.{files_of}
 use Rattle.response_program.proofs.Chains.{opened, gave_in, both_fell}
 use Rattle.response_program.proofs.Bases.{by_book}
 use Rattle.response_program.proofs.run.run.Goals as goal
@@ -12,7 +12,7 @@ returns-in-Ok-imported g c =
     let mid = view g.H.Shelf.held g.H.Shelf.open_faults g.H.Shelf.read_faults g.H.Shelf.write_faults c.open_in.new.self in
     let late = view g.H.Shelf.held g.H.Shelf.open_faults g.H.Shelf.read_faults g.H.Shelf.write_faults c.give_in.new.self in
     let new = view g.H.Shelf.held g.H.Shelf.open_faults g.H.Shelf.read_faults g.H.Shelf.write_faults c.run_book.new.shelf in
-    let names = names_of c.args.names.now in
+    let names = files_of c.args.names.now in
     let contents = c.in-Ok-imported.contents in
     let opening = opened old mid names.base c.open_in.result c.open_in.ensures.cause c.open_in.ensures.reads c.open_in.ensures.writes in
     let giving = gave_in mid late names.base (g.H.In.Source.faults c.import-imported.new.source) c.give_in.ensures.count c.give_in.ensures.opens c.give_in.ensures.writes in

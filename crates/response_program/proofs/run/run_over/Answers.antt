@@ -7,7 +7,7 @@ use Rattle.plan_journal.specs.Entries.{journal_text}
 use Rattle.scenario_rules.specs.Journal.{IsLegal}
 use Rattle.response_program.specs.declared.ending.Totals.{Totals}
 use Rattle.response_program.specs.Views.{view}
-use Rattle.response_program.specs.Names.{names_of}
+use Rattle.response_program.specs.Names.{files_of}
 use Rattle.response_program.specs.Outcomes.{outcome_of, and_written}
 use Rattle.response_program.specs.Runs.{HasRunOver}
 use Rattle.response_program.proofs.Chains.{opened, gave_out, both_fell, counted_rose}
@@ -23,7 +23,7 @@ returns-in-Err-run_desks g c =
     let mid = view g.H.Shelf.held g.H.Shelf.open_faults g.H.Shelf.read_faults g.H.Shelf.write_faults c.make_out.new.self in
     let late = view g.H.Shelf.held g.H.Shelf.open_faults g.H.Shelf.read_faults g.H.Shelf.write_faults c.run_desks.new.shelf in
     let new = view g.H.Shelf.held g.H.Shelf.open_faults g.H.Shelf.read_faults g.H.Shelf.write_faults c.give_out.new.self in
-    let names = names_of c.args.names.now in
+    let names = files_of c.args.names.now in
     let contents = c.args.book.now.base in
     let outcome = outcome_of c.in-Err-run_desks.ending in
     let making = opened old mid names.journal c.make_out.result c.make_out.ensures.cause c.make_out.ensures.reads c.make_out.ensures.writes in
@@ -40,7 +40,7 @@ returns-in-Ok-run_desks g c =
     let mid = view g.H.Shelf.held g.H.Shelf.open_faults g.H.Shelf.read_faults g.H.Shelf.write_faults c.make_out.new.self in
     let late = view g.H.Shelf.held g.H.Shelf.open_faults g.H.Shelf.read_faults g.H.Shelf.write_faults c.run_desks.new.shelf in
     let new = view g.H.Shelf.held g.H.Shelf.open_faults g.H.Shelf.read_faults g.H.Shelf.write_faults c.give_out-in-Ok-run_desks.new.self in
-    let names = names_of c.args.names.now in
+    let names = files_of c.args.names.now in
     let contents = c.args.book.now.base in
     let book = c.run_desks.new.book in
     let stop = option_map outcome_of c.in-Ok-run_desks.stop in
@@ -66,6 +66,6 @@ pub returns-in-Err : goal.returns-in-Err
 returns-in-Err g c =
     let old = view g.H.Shelf.held g.H.Shelf.open_faults g.H.Shelf.read_faults g.H.Shelf.write_faults c.args.shelf.now in
     let new = view g.H.Shelf.held g.H.Shelf.open_faults g.H.Shelf.read_faults g.H.Shelf.write_faults c.make_out.new.self in
-    let names = names_of c.args.names.now in
+    let names = files_of c.args.names.now in
     subst (HasRunOver old new names c.args.book.now.base c.args.book.now.entries) (sym c.of_open.ensures)
     (unmade old new names c.args.book.now.base c.args.book.now.entries c.in-Err.fault c.make_out.result c.in-Err.is c.make_out.ensures.cause c.make_out.ensures.here c.make_out.ensures.others c.make_out.ensures.reads c.make_out.ensures.writes)

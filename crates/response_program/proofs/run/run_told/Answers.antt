@@ -5,7 +5,7 @@ use Rattle.plan_schema.specs.declared.outside.SinkFault.TheVariants as sinks
 use Rattle.plan_schema.proofs.Writes.{rose_after, rose_later}
 use Rattle.response_program.specs.Views.{view}
 use Rattle.response_program.specs.Outcomes.{outcome_of, and_written, status_of, console_line}
-use Rattle.response_program.specs.Names.{names_of, console}
+use Rattle.response_program.specs.Names.{files_of, console}
 use Rattle.response_program.proofs.Chains.{opened, gave_out, both_fell, cause_later, cause_after, counted_rose}
 use Rattle.response_program.proofs.Named.{kept_then}
 use Rattle.response_program.proofs.Endings.{written_done, written_long, written_refused, written_of_base, written_opened, written_cause, written_told, written_cut}
@@ -18,7 +18,7 @@ returns g c =
     let mid = view g.H.Shelf.held g.H.Shelf.open_faults g.H.Shelf.read_faults g.H.Shelf.write_faults c.make_out.new.self in
     let late = view g.H.Shelf.held g.H.Shelf.open_faults g.H.Shelf.read_faults g.H.Shelf.write_faults c.run-ending.new.shelf in
     let new = view g.H.Shelf.held g.H.Shelf.open_faults g.H.Shelf.read_faults g.H.Shelf.write_faults c.give_out.new.self in
-    let names = names_of c.args.names.now in
+    let names = files_of c.args.names.now in
     let outcome = outcome_of c.run-ending.result in
     let written = c.tell-told.result in
     let final = and_written outcome console written in

@@ -1,0 +1,11 @@
+pub mod AllPairs
+pub mod Behind
+pub mod Built
+pub mod Cuts
+pub mod LongNumbers
+pub mod OneEach
+pub mod Seen
+pub mod Steps
+pub mod Taken
+pub mod Told
+pub mod Worked

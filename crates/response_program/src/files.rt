@@ -1,0 +1,47 @@
+//! The files of a run, by name.
+ghost use Rattle.std.specs.Prelude.{◌≡◌};
+ghost use Rattle.program_words.specs.Rounds as words;
+ghost use Rattle.response_program.specs.Names.{pair_of, files_of, names_of};
+
+use program_words::{PlacedPair, RunWords};
+
+/// The names of a session's files.
+#[derive(Clone, Copy)]
+pub struct Pair<'a> {
+    pub input: &'a str,
+    pub output: &'a str,
+}
+
+impl<'a> Pair<'a> {
+    /// The names that a command line gives.
+    pub fn of(placed: &PlacedPair<'a>) -> Pair<'a>
+        ensures { pair_of result ≡ words.pair_of placed.now }
+    {
+        Pair {
+            input: placed.input.as_str(),
+            output: placed.output.as_str(),
+        }
+    }
+}
+
+/// The names of a run's files: the base, the journal, and pairs in the order of their sessions.
+#[derive(Clone, Copy)]
+pub struct RunFiles<'p, 'a> {
+    pub base: &'a str,
+    pub journal: &'a str,
+    pub pairs: &'p [PlacedPair<'a>],
+}
+
+impl<'p, 'a> RunFiles<'p, 'a> {
+    /// The names that a command line gives.
+    #[tactic(auto, using(crate::proofs::Asked::same_pairs))]
+    pub fn of(run: &'p RunWords<'a>) -> RunFiles<'p, 'a>
+        ensures { files_of result ≡ names_of run.entry.now }
+    {
+        RunFiles {
+            base: run.base.as_str(),
+            journal: run.journal.as_str(),
+            pairs: run.rounds.pairs(),
+        }
+    }
+}

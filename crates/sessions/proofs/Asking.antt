@@ -28,10 +28,12 @@ use Rattle.plan_answer.specs.Replies.{reply_of}
 use Rattle.plan_core.specs.State.{State, history}
 use Rattle.plan_core.specs.Holds.{HoldsFor}
 use Rattle.plan_core.specs.Asks.{IsAsked, IsBarred}
-use Rattle.plan_book.specs.declared.fault.BookFault.{BookFault}
-use Rattle.plan_book.specs.declared.fault.BookFault.TheVariants as faults
-use Rattle.plan_book.specs.Answers.{IsAskFault}
-use Rattle.sessions.specs.Answered.{IsExact, IsJobFor, IsJobReply, TellsFault, TellsTrouble}
+use Rattle.plan_book.specs.Books as books
+use Rattle.session_rules.specs.Answers.{answer}
+use Rattle.plan_office.specs.declared.fault.OfficeFault.{OfficeFault}
+use Rattle.plan_office.specs.declared.fault.OfficeFault.TheVariants as faults
+use Rattle.sessions.specs.Sights.{Sight, Looks, IsAskedAt, IsUnaskedAt, state_at}
+use Rattle.sessions.specs.Answered.{IsExactOn, IsJobFor, IsJobReply, TellsFault, TellsTrouble}
 use Rattle.plan_answer.proofs.Asked.{same_want, asked_answer, barred_answer}
 use Rattle.plan_answer.proofs.Refusing.{refused_plan}
 
@@ -67,17 +69,21 @@ wants_its_plan (Promises part) uses = refl
 wants_its_plan (TellsCosts part) uses = refl
 wants_its_plan (Selects query) uses = refl
 
+-- the answer after all entries of a book
+abbrev IsExact : State → Name → Command → Reply → Type 0
+IsExact book user command reply = answer book.base (history book) user command ≡ Some reply
+
 -- at a book ------------------------------------------------------------------------------------------------------------------------
 
 module _ (book : State) (user scenario : Name) (command : Command) (wanted : Wanted) (sound : is_sound_command command ≡ true) (wants : wanted_by command ≡ Some (scenario, wanted)) where
   -- its job is one for its question
-  pub job_for : (job : Job) → IsAsked book user scenario wanted job → IsJobFor command job
+  job_for : (job : Job) → IsAsked book user scenario wanted job → IsJobFor command job
   job_for job asked =
       let q = has_question command (scenario, wanted) sound wants in
       record { asked = q.0; asks = q.1; wants = asked.wanted_is ∙ same_want command scenario wanted q.0 wants q.1 }
 
   -- and the reply from the job is the answer
-  pub job_exact : HoldsFor book → (job : Job) → IsAsked book user scenario wanted job → (reply : Reply) → IsJobReply job command reply → IsExact book user command reply
+  job_exact : HoldsFor book → (job : Job) → IsAsked book user scenario wanted job → (reply : Reply) → IsJobReply job command reply → IsExact book user command reply
   job_exact holds job asked reply h =
       asked_answer book.base (history book) user scenario command wanted h.asked job.cells holds.whole holds.limits holds.legal wants h.asks asked.allowed asked.collected
       ∙ ap Some (ap (λ point. reply_of point (records job.cells) h.asked) (sym asked.point_is) ∙ sym h.reply_is)
@@ -87,11 +93,6 @@ module _ (book : State) (user scenario : Name) (command : Command) (wanted : Wan
   barred_exact point refusal h =
       let q = has_question command (scenario, wanted) sound wants in
       barred_answer book.base (history book) user scenario command wanted q.0 refusal wants q.1 h.first ∙ ap (λ n. Some (replies.No n refusal)) (sym h.point_is)
-
-  pub unasked_exact : (fault : BookFault) → IsAskFault book user scenario fault → (reply : Reply) → TellsFault fault reply → IsExact book user command reply
-  unasked_exact (faults.Refused point refusal) h reply is = barred_exact point refusal h ∙ ap Some (sym is)
-  unasked_exact faults.Memory h reply is = absurd is
-  unasked_exact faults.Failed h reply is = absurd is
 
 -- a plan that is refused before anything is netted
 pub refused_job : (c : Contents) (asked : Question) (wanted : Wanted) (point : ℕ) (trouble : Trouble) → wanted ≡ wants_of asked → asks_for_plan asked ≡ true → IsTrouble c (asked_by c wanted) point trouble
@@ -104,3 +105,32 @@ refused_job c asked wanted point troubles.Memory wants uses h reply is = absurd 
 pub if_ok : {T E : Type 0} {P Q : T → Type 0} (result : Result T E) → IfOk result P → ((value : T) → P value → Q value) → IfOk result Q
 if_ok (Ok value) h more = more value h
 if_ok (Err fault) h more = tt
+
+-- by what is seen --------------------------------------------------------------------------------------------------------------------
+
+module _ {F : Type 0} (old asked new : Sight F) (user scenario : Name) (command : Command) (wanted : Wanted) (sound : is_sound_command command ≡ true) (wants : wanted_by command ≡ Some (scenario, wanted)) where
+  -- the answer of a book that is seen so
+  exact_then : (work : books.Work) → Looks old asked → Looks asked new → (reply : Reply) → IsExact (state_at asked work) user command reply → IsExactOn old new user command reply
+  exact_then work first then reply exact =
+      record {
+        at = asked.seen;
+        front = first.grows;
+        grows = then.grows;
+        exact = ap (λ p. answer p.began.base (books.history p.began asked.seen) user command) (sym first.place) ∙ exact;
+      }
+
+  -- from the job that was asked for
+  pub job_for_at : (job : Job) → IsAskedAt asked user scenario wanted job → IsJobFor command job
+  job_for_at job h = job_for (state_at asked h.work) user scenario command wanted sound wants job h.asked
+
+  pub job_exact_on : Looks old asked → Looks asked new → (job : Job) → IsAskedAt asked user scenario wanted job → (reply : Reply) → IsJobReply job command reply → IsExactOn old new user command reply
+  job_exact_on first then job h reply is =
+      exact_then h.work first then reply (job_exact (state_at asked h.work) user scenario command wanted sound wants h.holds job h.asked reply is)
+
+  -- and from the fault where there is none
+  pub unasked_exact_on : Looks old asked → Looks asked new → (fault : OfficeFault) → IsUnaskedAt asked user scenario fault → (reply : Reply) → TellsFault fault reply → IsExactOn old new user command reply
+  unasked_exact_on first then (faults.Refused point refusal) h reply is =
+      exact_then h.0 first then reply (barred_exact (state_at asked h.0) user scenario command wanted sound wants point refusal h.1 ∙ ap Some (sym is))
+  unasked_exact_on first then faults.Memory h reply is = absurd is
+  unasked_exact_on first then faults.Failed h reply is = absurd is
+  unasked_exact_on first then faults.Worn h reply is = absurd is

@@ -1,128 +1,164 @@
--- Changes of a session: what they are answered, and what they leave.
-use Rattle.std.proofs.Common.{◌≡◌, ℕ, ◌+◌, ◌-◌, ◌≤◌, List, [], ◌∷◌, ◌++◌, length, take, Bool, true, false, not, Some, None, refl, sym, ap, subst, ◌∙◌, arith, append_assoc, append-nil, length-append, inl, inr}
-use Rattle.std.specs.Prelude.{◌⊎◌, Err}
-use Rattle.std.specs.List.{slice_get, range_with_len}
+-- What a request of a session is answered, and what it leaves.
+use Rattle.std.proofs.Common.{◌≡◌, ℕ, ◌+◌, ◌-◌, ◌≤◌, ◌<◌, List, [], ◌∷◌, ◌++◌, length, take, Bool, true, false, Some, Ok, Err, refl, sym, ap, subst, ◌∙◌, arith, append-nil, length-append, inl, inr}
+use Rattle.std.specs.Prelude.{◌⊎◌}
+use Rattle.std.specs.List.{slice_get}
 use Rattle.std.proofs.Math.Seq.{take-length}
-use Rattle.std.proofs.lemmas.List.{map-append}
 use Rattle.plan_schema.specs.declared.name.Name.{Name}
 use Rattle.plan_schema.specs.declared.change.Change.{Change}
 use Rattle.plan_schema.specs.declared.change.Entry.{Entry}
 use Rattle.plan_schema.specs.declared.refusal.Refusal.{Refusal}
-use Rattle.plan_schema.specs.declared.refusal.Refusal.TheVariants as refusals
+use Rattle.command_words.specs.declared.command.Command.{Command}
 use Rattle.command_words.specs.declared.reply.Reply.{Reply}
 use Rattle.command_words.specs.declared.reply.Reply.TheVariants as replies
-use Rattle.plan_book.specs.declared.ground.Ground.{Ground}
-use Rattle.plan_book.specs.Books.{Story, history, entries_in, point_of, entry_for}
-use Rattle.plan_book.specs.declared.fault.BookFault.{BookFault}
-use Rattle.plan_book.specs.declared.fault.BookFault.TheVariants as faults
-use Rattle.plan_book.specs.Answers.{IsChangeAnswer, refusal_of, told, IsAccepted, IsRefused, IsFailed}
-use Rattle.command_words.specs.declared.command.Command.{Command}
+use Rattle.plan_book.specs.Books.{history, story_of}
+use Rattle.plan_office.specs.declared.fault.OfficeFault.{OfficeFault}
+use Rattle.plan_office.specs.declared.fault.OfficeFault.TheVariants as faults
+use Rattle.plan_office.proofs.Turns.{history_more}
 use Rattle.session_rules.specs.Requests.{Wish, Makes, Asks}
-use Rattle.sessions.specs.Answered.{IsAnswered}
 use Rattle.session_rules.specs.Answers.{change_reply, change_answer}
-use Rattle.session_rules.specs.Sessions.{IsMadeReply, IsReplyTo}
-use Rattle.session_rules.specs.Runs.{accepted_entry, accepted_point}
-use Rattle.sessions.specs.declared.terms.Terms.{Terms}
-use Rattle.sessions.specs.Replied.{IsRepliedIn, MayBeReplied}
-
--- one more entry --------------------------------------------------------------------------------------------------------------------
-
--- the history with one more entry of the story
-grown : (began : Ground) (before after : Story) (entry : Entry) → after ≡ told before entry → history began after ≡ history began before ++ entry ∷ []
-grown began before after entry is =
-    ap (history began) is ∙ ap (λ entries. began.earlier ++ entries) (map-append (λ (e : ℕ × Entry). e.1) before ((entry.session, entry) ∷ []))
-    ∙ sym (append_assoc began.earlier (entries_in before) (entry ∷ []))
+use Rattle.session_rules.specs.Sessions.{IsMadeReply, IsReplyTo, is_load}
+use Rattle.session_rules.specs.Runs.{accepted_entry, accepted_point, IsRising}
+use Rattle.turn_table.specs.Story.{Begins}
+use Rattle.sessions.specs.Answered.{IsAnsweredOn}
+use Rattle.sessions.specs.Sights.{Sight, known, Looks, Enters, IsAcceptedAt, IsRefusedAt, IsRefusal, IsMade, entry_at}
+use Rattle.sessions.specs.Replied.{IsReplied, IsUntold, Gives, Stops}
+use Rattle.sessions.proofs.Seen.{begins_on, known_longer}
+use Rattle.request_loop.specs.Exchanges.{to_make}
+use Rattle.request_loop.specs.declared.answers.Why.TheVariants as whys
 
 last_one : (entries : List Entry) (entry : Entry) → slice_get (entries ++ entry ∷ []) (length entries) ≡ Some entry
 last_one [] entry = refl
 last_one (first ∷ entries) entry = last_one entries entry
 
--- answers -----------------------------------------------------------------------------------------------------------------------------
-
-module _ (terms : Terms) (began : Ground) (old new : Story) (user : Name) (line : ℕ) where
+module _ {F : Type 0} (old new : Sight F) (user : Name) (line : ℕ) where
   -- a reply that enters nothing
-  pub unentered : (wish : Wish) (reply : Reply) → new ≡ old → ((floor last : ℕ) → floor ≤ length (history began old) → last ≤ length (history began old) → IsReplyTo terms.may_change began.base (history began old) terms.session floor last user line wish reply)
-      → accepted_entry terms.session line user wish reply ≡ [] → accepted_point wish reply ≡ [] → IsRepliedIn terms began old new user line wish reply
-  unentered wish reply same legal none no_point =
-      let kept : history began new ≡ history began old = ap (history began) same in
+  pub unentered : (wish : Wish) (reply : Reply) → Looks old new
+      → ((floor last : ℕ) → floor ≤ length (known old) → last ≤ length (known old) → IsReplyTo old.place.may_change old.place.began.base (known new) old.place.session floor last user line wish reply)
+      → accepted_entry old.place.session line user wish reply ≡ [] → accepted_point wish reply ≡ [] → IsReplied old new user line wish reply
+  unentered wish reply looks legal none no_point =
+      let longer : length (known old) ≤ length (known new) = known_longer old new looks.place looks.grows in
       record {
-        legal = λ floor last low few. subst (λ entries. IsReplyTo terms.may_change began.base entries terms.session floor last user line wish reply) (sym kept) (legal floor last low few);
-        entered = kept ∙ sym (ap (λ more. history began old ++ more) none ∙ append-nil (history began old));
-        numbered = no_point ∙ sym (ap (λ more. range_with_len (length (history began old) + 1) (length more)) none);
+        place = looks.place;
+        grows = looks.grows;
+        later = looks.later;
+        legal = legal;
+        entered = looks.own ∙ sym (ap (λ more. old.own ++ story_of more) none ∙ append-nil old.own);
+        rises = subst (λ points. IsRising (length (known old)) points (length (known new))) (sym no_point) longer;
       }
 
-module _ (terms : Terms) (began : Ground) (old new : Story) (user : Name) (line : ℕ) (change : Change) where
+  -- the answer to a command that changes nothing, as a reply
+  pub asked_answers : (command : Command) (reply : Reply) → Looks old new → IsAnsweredOn old new user command reply → IsReplied old new user line (Asks command) reply
+  asked_answers command reply looks h = unentered (Asks command) reply looks (λ floor last low few. h old.place.may_change old.place.session floor last few) refl refl
+
+module _ {F : Type 0} (old new : Sight F) (user : Name) (line : ℕ) (change : Change) where
   abbrev entry : Entry
-  entry = entry_for terms.session line user change
+  entry = entry_at old line user change
 
-  -- an accepted change
-  pub accepted : (point : ℕ) → terms.may_change ≡ true → IsAccepted began old new entry point → IsRepliedIn terms began old new user line (Makes change) (replies.Ok point)
-  accepted point may h =
-      let more : history began new ≡ history began old ++ entry ∷ [] = grown began old new entry h.entered in
-      let counted : point ≡ length (history began old) + 1 = h.number_is ∙ ap length more ∙ length-append (history began old) (entry ∷ []) in
-      let place : point - 1 ≡ length (history began old) = omega (arith, counted) in
+  abbrev Legal : Reply → Type 0
+  Legal reply = (floor last : ℕ) → floor ≤ length (known old) → last ≤ length (known old) → IsReplyTo old.place.may_change old.place.began.base (known new) old.place.session floor last user line (Makes change) reply
+
+  by_may : (b : Bool) (reply : Reply) → old.place.may_change ≡ b
+      → ((floor last : ℕ) → floor ≤ length (known old) → last ≤ length (known old) → IsMadeReply old.place.may_change old.place.began.base (known new) old.place.session floor last user b line change reply) → Legal reply
+  by_may b reply may h floor last low few =
+      subst (λ b. IsMadeReply old.place.may_change old.place.began.base (known new) old.place.session floor last user b line change reply) (sym may) (h floor last low few)
+
+  -- an entry was made: the history ends with it
+  entered_last : (e : Enters entry old new) → known new ≡ history old.place.began e.before ++ entry ∷ []
+  entered_last e = ap (λ p. history p.began new.seen) e.place ∙ ap (history old.place.began) e.seen ∙ history_more old.place.began e.before ((entry.session, entry) ∷ [])
+
+  entered_longer : (e : Enters entry old new) → length (known old) ≤ length (history old.place.began e.before)
+  entered_longer e = known_longer old (record old { seen = e.before }) refl e.grows
+
+  pub entered_replied : (number : ℕ) → old.place.may_change ≡ true → Enters entry old new → number ≡ length (known new) → IsReplied old new user line (Makes change) (replies.Ok number)
+  entered_replied number may e number_is =
+      let before : List Entry = history old.place.began e.before in
+      let all : known new ≡ before ++ entry ∷ [] = entered_last e in
+      let counted : number ≡ length before + 1 = number_is ∙ ap length all ∙ length-append before (entry ∷ []) in
+      let longer : length (known old) ≤ length before = entered_longer e in
+      let place : number - 1 ≡ length before = omega (arith, counted) in
+      let above : length (known old) < number = omega (arith, counted, longer) in
+      let within : number ≤ length (known new) = omega (arith, number_is) in
       record {
-        legal = λ floor last low few.
-            subst (λ b. IsMadeReply b began.base (history began new) terms.session floor last user b line change (replies.Ok point)) (sym may)
-            (record {
-              in_order = record { later = omega (arith, counted, few); within = omega (arith, h.number_is) };
-              entry = record { above = omega (arith, counted, low); entry = ap (λ entries. slice_get entries (point - 1)) more ∙ ap (slice_get (history began old ++ entry ∷ [])) place ∙ last_one (history began old) entry };
-            });
-        entered = more;
-        numbered = ap (λ n. n ∷ []) counted;
+        place = e.place;
+        grows = begins_on old.seen e.before new.seen e.grows ((entry.session, entry) ∷ [], e.seen);
+        later = e.later;
+        legal = by_may true (replies.Ok number) may (λ floor last low few. record {
+          in_order = record { later = omega (arith, above, few); within = within };
+          entry = record {
+            above = omega (arith, above, low);
+            entry = ap (λ entries. slice_get entries (number - 1)) all ∙ ap (slice_get (before ++ entry ∷ [])) place ∙ last_one before entry;
+          };
+        });
+        entered = e.own;
+        rises = (above, within);
       }
+
+  pub accepted : (number : ℕ) → IsAcceptedAt old new entry number → IsReplied old new user line (Makes change) (replies.Ok number)
+  accepted number h = entered_replied number h.may h.enters h.number_is
 
   -- a refused change
-  pub refused_change : (point : ℕ) (refusal : Refusal) → terms.may_change ≡ true → IsRefused began old new entry point refusal → IsRepliedIn terms began old new user line (Makes change) (replies.No point refusal)
-  refused_change point refusal may h =
-      unentered terms began old new user line (Makes change) (replies.No point refusal) h.same
-      (λ floor last low few.
-      subst (λ b. IsMadeReply b began.base (history began old) terms.session floor last user b line change (replies.No point refusal)) (sym may)
-      (record {
-        in_order = record { later = omega (arith, h.point_is, few); within = omega (arith, h.point_is) };
-        right = ap (λ n. change_answer began.base (take n (history began old)) user change) h.point_is
-            ∙ ap (λ entries. change_answer began.base entries user change) (take-length (history began old))
-            ∙ ap (change_reply (length (history began old))) h.first
-            ∙ ap (λ n. Some (replies.No n refusal)) (sym h.point_is);
-      })) refl refl
+  refused_legal : (b : Bool) (point : ℕ) (refusal : Refusal) → new.place ≡ old.place → Begins old.seen new.seen → IsRefusal b new entry refusal → point ≡ length (known new)
+      → (floor last : ℕ) → floor ≤ length (known old) → last ≤ length (known old) → IsMadeReply old.place.may_change old.place.began.base (known new) old.place.session floor last user b line change (replies.No point refusal)
+  refused_legal true point refusal place grows first is floor last low few =
+      let longer : length (known old) ≤ length (known new) = known_longer old new place grows in
+      record {
+        in_order = record { later = omega (arith, is, few, longer); within = omega (arith, is) };
+        right = ap (λ n. change_answer old.place.began.base (take n (known new)) user change) is
+            ∙ ap (λ entries. change_answer old.place.began.base entries user change) (take-length (known new))
+            ∙ ap (λ p. change_answer p.began.base (known new) user change) (sym place)
+            ∙ ap (change_reply (length (known new))) first
+            ∙ ap (λ n. Some (replies.No n refusal)) (sym is);
+      }
+  refused_legal false point refusal place grows first is floor last low few =
+      let longer : length (known old) ≤ length (known new) = known_longer old new place grows in
+      subst (λ r. IsMadeReply old.place.may_change old.place.began.base (known new) old.place.session floor last user false line change (replies.No point r)) (sym first)
+      (record { later = omega (arith, is, few, longer); within = omega (arith, is) })
+
+  pub refused_change : (point : ℕ) (refusal : Refusal) → IsRefusedAt old new entry point refusal → IsReplied old new user line (Makes change) (replies.No point refusal)
+  refused_change point refusal h =
+      unentered old new user line (Makes change) (replies.No point refusal) h.looks
+      (by_may old.place.may_change (replies.No point refusal) refl (refused_legal old.place.may_change point refusal h.looks.place h.looks.grows h.first h.point_is)) refl refl
 
   -- a change without memory
-  pub wanting : terms.may_change ≡ true → new ≡ old → IsRepliedIn terms began old new user line (Makes change) replies.Mem
-  wanting may same =
-      unentered terms began old new user line (Makes change) replies.Mem same
-      (λ floor last low few. subst (λ b. IsMadeReply b began.base (history began old) terms.session floor last user b line change replies.Mem) (sym may) tt) refl refl
+  pub wanting : old.place.may_change ≡ true → Looks old new → IsReplied old new user line (Makes change) replies.Mem
+  wanting may looks = unentered old new user line (Makes change) replies.Mem looks (by_may true replies.Mem may (λ floor last low few. tt)) refl refl
 
-  -- where nothing can be changed
-  pub read_only : (point : ℕ) → terms.may_change ≡ false → new ≡ old → point ≡ point_of began old → IsRepliedIn terms began old new user line (Makes change) (replies.No point refusals.ReadOnly)
-  read_only point may same is =
-      unentered terms began old new user line (Makes change) (replies.No point refusals.ReadOnly) same
-      (λ floor last low few. subst (λ b. IsMadeReply b began.base (history began old) terms.session floor last user b line change (replies.No point refusals.ReadOnly)) (sym may)
-      (record { later = omega (arith, is, few); within = omega (arith, is) })) refl refl
-
-  -- a book that failed
-  pub failed : (faults faults_then : ℕ) → terms.may_change ≡ true → IsFailed began old new entry faults faults_then
-      → MayBeReplied terms began old new user line (Makes change)
-  failed faults faults_then may h = by_either h.either
+  -- a LOAD without memory for its rows
+  pub rowless : is_load change ≡ true → Looks old new → IsReplied old new user line (Makes change) replies.Mem
+  rowless load looks = unentered old new user line (Makes change) replies.Mem looks (by_may old.place.may_change replies.Mem refl (by_load old.place.may_change)) refl refl
     where
-      by_either : (new ≡ old) ⊎ ((refusal_of began old entry ≡ None) × (new ≡ told old entry)) → MayBeReplied terms began old new user line (Makes change)
-      by_either (inl same) = inl (ap (history began) same)
-      by_either (inr more) = inr (accepted (length (history began new)) may (record { allowed = more.0; entered = more.1; number_is = refl }))
+      by_load : (b : Bool) (floor last : ℕ) → floor ≤ length (known old) → last ≤ length (known old)
+          → IsMadeReply old.place.may_change old.place.began.base (known new) old.place.session floor last user b line change replies.Mem
+      by_load true floor last low few = tt
+      by_load false floor last low few = load
 
--- what a fault of the book tells
-pub refused_by : {began : Ground} {before after : Story} {entry : Entry} {point : ℕ} {refusal : Refusal} (count then : ℕ) (fault : BookFault) → fault ≡ faults.Refused point refusal
-    → IsChangeAnswer began before after count then entry (Err fault) → IsRefused began before after entry point refusal
-refused_by {began} {before} {after} {entry} count then fault is h = subst (λ f. IsChangeAnswer began before after count then entry (Err f)) is h
+-- a change, by its answer
+module _ {F S : Type 0} (sight : S → Sight F) (failed : S → S → Type 0) (worn : S → Type 0) (old new : S) (user : Name) (line : ℕ) (change : Change) where
+  abbrev made : Entry
+  made = entry_at (sight old) line user change
 
-pub failed_by : {began : Ground} {before after : Story} {entry : Entry} (count then : ℕ) (fault : BookFault) → fault ≡ faults.Failed
-    → IsChangeAnswer began before after count then entry (Err fault) → IsFailed began before after entry count then
-failed_by {began} {before} {after} {entry} count then fault is h = subst (λ f. IsChangeAnswer began before after count then entry (Err f)) is h
+  pub gives_accepted : (number : ℕ) → IsMade sight failed worn old new made (Ok number) → Gives sight old new user (to_make line change) (replies.Ok number)
+  gives_accepted number h = accepted (sight old) (sight new) user line change number h
 
--- the answer to a command that changes nothing, as a reply
-pub asked_answers : (terms : Terms) (began : Ground) (old new : Story) (user : Name) (line : ℕ) (command : Command) (reply : Reply) → new ≡ old
-    → IsAnswered began.base (history began old) user command reply → IsRepliedIn terms began old new user line (Asks command) reply
-asked_answers terms began old new user line command reply same h =
-    unentered terms began old new user line (Asks command) reply same (λ floor last low few. h terms.may_change terms.session floor last few) refl refl
+  pub gives_refused : (fault : OfficeFault) (point : ℕ) (refusal : Refusal) → fault ≡ faults.Refused point refusal → IsMade sight failed worn old new made (Err fault)
+      → Gives sight old new user (to_make line change) (replies.No point refusal)
+  gives_refused fault point refusal is h = refused_change (sight old) (sight new) user line change point refusal (subst (λ f. IsMade sight failed worn old new made (Err f)) is h)
 
-pub no_not : (b : Bool) → not b ≡ false → b ≡ true
-no_not true is = refl
-no_not false is = cc
+  pub gives_wanting : (fault : OfficeFault) → fault ≡ faults.Memory → IsMade sight failed worn old new made (Err fault) → Gives sight old new user (to_make line change) replies.Mem
+  gives_wanting fault is h =
+      let it = subst (λ f. IsMade sight failed worn old new made (Err f)) is h in
+      wanting (sight old) (sight new) user line change it.0 it.1
+
+  pub stops_failed : (fault : OfficeFault) → fault ≡ faults.Failed → IsMade sight failed worn old new made (Err fault) → Stops sight failed worn old new user (to_make line change) whys.Failed
+  stops_failed fault is h =
+      let it = subst (λ f. IsMade sight failed worn old new made (Err f)) is h in
+      record { cause = it.1; either = by_either it.0 it.2 }
+    where
+      by_either : (sight old).place.may_change ≡ true → Looks (sight old) (sight new) ⊎ Enters made (sight old) (sight new) → Looks (sight old) (sight new) ⊎ IsUntold (sight old) (sight new) user line (Makes change)
+      by_either may (inl looks) = inl looks
+      by_either may (inr enters) = inr (record { change = change; makes = refl; replied = entered_replied (sight old) (sight new) user line change (length (known (sight new))) may enters refl })
+
+  pub stops_worn : (fault : OfficeFault) → fault ≡ faults.Worn → IsMade sight failed worn old new made (Err fault) → Stops sight failed worn old new user (to_make line change) whys.Worn
+  stops_worn fault is h =
+      let it = subst (λ f. IsMade sight failed worn old new made (Err f)) is h in
+      record { cause = it.1; either = inl it.0 }

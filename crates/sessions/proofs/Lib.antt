@@ -1,6 +1,11 @@
+pub mod Seen
+pub mod Entered
 pub mod Exact
 pub mod Asking
-pub mod Stories
-pub mod Entered
+pub mod Fronts
 pub mod FromChain
 pub mod Ended
+pub mod OwnBook
+pub mod OwnCalls
+pub mod TurnSession
+pub mod TurnCalls

@@ -1,8 +1,6 @@
--- What a command that is no change is answered at the end of a book.
-use Rattle.std.specs.Prelude.{◌≡◌, ℕ, ◌≤◌, Bool, List, length, Some}
+-- What a command that is no change is answered, by what is seen of a book.
+use Rattle.std.specs.Prelude.{◌≡◌, ℕ, ◌≤◌, Bool, length, Some}
 use Rattle.plan_schema.specs.declared.name.Name.{Name}
-use Rattle.plan_schema.specs.declared.change.Entry.{Entry}
-use Rattle.plan_schema.specs.Contents.{Contents}
 use Rattle.command_words.specs.declared.command.Command.{Command}
 use Rattle.command_words.specs.declared.reply.Reply.{Reply}
 use Rattle.command_words.specs.declared.reply.Reply.TheVariants as replies
@@ -15,17 +13,24 @@ use Rattle.session_rules.specs.Sessions.{IsCommandReply}
 use Rattle.plan_answer.specs.Asks.{Question, question_of}
 use Rattle.plan_answer.specs.Planned.{wants_of}
 use Rattle.plan_answer.specs.Replies.{reply_of}
-use Rattle.plan_book.specs.declared.fault.BookFault.{BookFault}
-use Rattle.plan_book.specs.declared.fault.BookFault.TheVariants as faults
-use Rattle.plan_core.specs.State.{State, history}
+use Rattle.turn_table.specs.Story.{Begins}
+use Rattle.plan_book.specs.Books.{Story, history}
+use Rattle.plan_office.specs.declared.fault.OfficeFault.{OfficeFault}
+use Rattle.plan_office.specs.declared.fault.OfficeFault.TheVariants as faults
+use Rattle.sessions.specs.Sights.{Sight, known}
 
--- the answer to a command after all entries, whatever session asks and whatever point came before
-abbrev pub IsAnswered : Contents → List Entry → Name → Command → Reply → Type 0
-IsAnswered base entries user command reply = (may_change : Bool) (session floor last : ℕ) → last ≤ length entries → IsCommandReply may_change base entries session floor last user command reply
+module _ {F : Type 0} (old new : Sight F) (user : Name) (command : Command) where
+  -- the answer at a history that goes on from what was known before, and from which what is known then goes on
+  pub record IsExactOn (reply : Reply) : Type 0 where
+    pub at : Story
+    pub front : Begins old.seen at
+    pub grows : Begins at new.seen
+    pub exact : answer old.place.began.base (history old.place.began at) user command ≡ Some reply
 
--- the same where there was memory for it: the answer after all entries of the book
-abbrev pub IsExact : State → Name → Command → Reply → Type 0
-IsExact book user command reply = answer book.base (history book) user command ≡ Some reply
+  -- a legal reply in what is known then, whatever session asks and whatever point that was known before came before
+  abbrev pub IsAnsweredOn : Reply → Type 0
+  IsAnsweredOn reply = (may_change : Bool) (session floor last : ℕ) → last ≤ length (known old)
+      → IsCommandReply may_change old.place.began.base (known new) session floor last user command reply
 
 -- a job is one for the question that a command is
 pub record IsJobFor (command : Command) (job : Job) : Type 0 where
@@ -40,7 +45,7 @@ pub record IsJobReply (job : Job) (command : Command) (reply : Reply) : Type 0 w
   pub reply_is : reply ≡ reply_of job.point (records job.cells) asked
 
 -- the reply where a question has no job: why it may not be asked
-abbrev pub TellsFault : BookFault → Reply → Type 0
+abbrev pub TellsFault : OfficeFault → Reply → Type 0
 TellsFault (faults.Refused point refusal) reply = reply ≡ replies.No point refusal
 TellsFault fault reply = ⊥
 

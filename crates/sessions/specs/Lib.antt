@@ -1,3 +1,6 @@
+pub mod Sights
+pub mod Alone
+pub mod InTurns
 pub mod Ends
 pub mod Answered
 pub mod Serving

@@ -1,11 +1,11 @@
 //! Walks to their end.
-ghost use Rattle.std.specs.Prelude.{◌≡◌, [], map, OnOk, IfOk};
-ghost use Rattle.walk_rules.specs.Cells.{Stands};
+ghost use Rattle.std.specs.Prelude.{◌≡◌, [], map, Err, OnOk, IfOk};
 ghost use Rattle.plan_walk.specs.Walk.{IsOpen, IsSolved};
-ghost use Rattle.plan_core.specs.State.{meaning_of};
-ghost use Rattle.plan_book.specs.Books.{state_by, IsSameStory};
+ghost use Rattle.plan_office.specs.declared.fault.OfficeFault.TheVariants as office;
+ghost use Rattle.sessions.specs.Sights.{StandsAt, Looks};
 
-use plan_book::PlanBook;
+use crate::reach::Reach;
+use plan_office::OfficeFault;
 use plan_schema::Steps;
 use plan_walk::{Round, Solved, Walk, solve};
 use std::alloc::{AllocError, Global};
@@ -13,23 +13,26 @@ use std::marker::Brand;
 use std::sync::ledger::{Blank, Ledger};
 
 /// Walks to the end: takes what the book's memo has, and nets the rest, frontier after frontier, between the calls of the book.
-pub fn walk_to_end<B: PlanBook>(
+pub fn walk_to_end<T: Reach>(
     alloc: Global,
-    book: &mut B,
+    reach: &T,
+    state: &mut T::State,
     walk: &mut Walk,
-) -> Result<(), AllocError>
+) -> Result<(), OfficeFault>
+    requires ready { T.ready reach.now state.old }
     requires open { IsOpen walk.old }
-    requires stands { Stands (meaning_of (state_by B.story B.basis B.work book.old))
-        walk.old.job.cells }
-    ensures told { IsSameStory B.story B.faults B.basis book.old book.new }
+    requires stands { StandsAt (T.sight reach.now state.old) walk.old.job.cells }
+    ensures ready { T.ready reach.now state.new }
+    ensures looks { Looks (T.sight reach.now state.old) (T.sight reach.now state.new) }
     ensures done { OnOk result (walk.new.front ≡ []) }
     ensures open { OnOk result (IsOpen walk.new) }
     ensures job { walk.new.job ≡ walk.old.job }
+    ensures worn { result ≡ Err office.Worn → T.worn reach.now state.new }
 {
-    let mut round = book.round(walk, Solved::none(alloc))?;
+    let mut round = reach.round(state, walk, Solved::none(alloc))?;
     'rounds: while let Round::More = round {
         let solved = net_frontier(alloc, walk)?;
-        round = book.round(walk, solved)?;
+        round = reach.round(state, walk, solved)?;
     }
     Ok(())
 }

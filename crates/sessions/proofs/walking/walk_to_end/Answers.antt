@@ -5,4 +5,4 @@ pub rounds-smaller : goal.rounds-smaller
 rounds-smaller g c =
     let round = c.in_ok-round-2.ensures.ok in
     let before = c.rounds.invariant in
-    rounds_end c.rounds.walk c.round-in-More.new.walk _ _ _ c.in_ok-solved.solved c.in_ok-round-2.round round.work round.settles c.in_ok-solved.ensures.names before.goes_on (before.ends.more c.in-More.is)
+    rounds_end c.rounds.walk c.round-in-More.new.walk _ _ _ c.in_ok-solved.solved c.in_ok-round-2.round round.round_is.work round.round_is.settles c.in_ok-solved.ensures.names before.goes_on (before.ends.more c.in-More.is)

@@ -1,14 +1,17 @@
 //! A book in memory.
-ghost use Rattle.std.specs.Prelude.{◌≡◌, ◌≤◌, IfOk};
+ghost use Rattle.std.specs.Prelude.{◌≡◌, ◌≤◌, true, [], IfOk, IfErr};
+ghost use Rattle.std.specs.List.{list_all};
+ghost use Rattle.plan_schema.specs.Sound.{is_sound_entry};
 ghost use Rattle.scenario_rules.specs.Whole.{AreWholeContents, AreWithinLimits};
 ghost use Rattle.plan_core.specs.State.{begin_state};
+ghost use Rattle.plan_core.specs.Behind.{HasEntered, IsNoCore};
 ghost use Rattle.plan_book.specs.Faults.{book_answer};
 
 use crate::fault::BookFault;
 use crate::ground::Ground;
 use crate::plan_book::PlanBook;
 use command_words::Lines;
-use plan_core::Core;
+use plan_core::{BehindFault, Core};
 use plan_jobs::{Job, Wanted};
 use plan_journal::Journal;
 use plan_schema::{Change, Contents, Entry, Name};
@@ -41,6 +44,26 @@ impl Book {
         ensures { IfOk result (λ book. book ≡ begin_state contents most) }
     {
         let core = Core::begin(alloc, contents, most)?;
+        Ok(Book { core })
+    }
+
+    /// A book with these records as the root's behind the entries of an earlier journal, and an empty memo for so many pairs. Where one
+    /// of the entries is refused, it answers how many stand before the first such entry, and why that is refused.
+    pub fn behind(
+        alloc: Global,
+        contents: Contents,
+        most: u32,
+        earlier: &Journal,
+    ) -> Result<Book, BehindFault>
+        requires whole { AreWholeContents contents }
+        requires limits { AreWithinLimits contents }
+        requires some { 1 ≤ most }
+        requires few { most ≤ 65_536 }
+        requires sound { list_all is_sound_entry earlier.now.entries ≡ true }
+        ensures ok { IfOk result (HasEntered contents most earlier.now.entries []) }
+        ensures err { IfErr result (IsNoCore contents earlier.now.entries) }
+    {
+        let core = Core::behind(alloc, contents, most, earlier)?;
         Ok(Book { core })
     }
 

@@ -8,3 +8,4 @@ pub mod TreeLines
 pub mod Settled
 pub mod Refusing
 pub mod Tidied
+pub mod Again

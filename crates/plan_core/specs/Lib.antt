@@ -6,3 +6,4 @@ pub mod Changes
 pub mod Asks
 pub mod Rounds
 pub mod Trees
+pub mod Behind

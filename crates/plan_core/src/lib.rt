@@ -3,6 +3,7 @@
 
 mod ask;
 mod began;
+mod behind;
 mod change;
 mod kept;
 mod keys;
@@ -10,4 +11,5 @@ mod round;
 mod tally;
 mod tree;
 
+pub use behind::BehindFault;
 pub use kept::Core;

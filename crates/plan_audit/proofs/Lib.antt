@@ -2,4 +2,9 @@ pub mod Causes
 pub mod Lines
 pub mod Places
 pub mod Wholes
+pub mod Suffixes
+pub mod SameEntries
+pub mod Accepted
+pub mod Judged
 pub mod Worked
+pub mod SeenSessions

@@ -28,18 +28,18 @@ not_legal session broken = Judges (verdicts.NotLegal session broken.line broken.
 
 -- sessions -----------------------------------------------------------------------------------------------------------------
 
--- the end of a session whose requests that are heard were all answered: its input may go on past the limits, or bytes may follow
--- the last reply. Else these are the points of its accepted changes.
-abbrev pub ended : ℕ → Bool → Seen → List ℕ → Result (List ℕ) Finding
-ended session is_long seen left = if is_long then Err (TooLong session) else behind_last session seen left
-  where
-    behind_last : ℕ → Seen → List ℕ → Result (List ℕ) Finding
-    behind_last session seen [] = Ok seen.accepted
-    behind_last session seen (byte ∷ bytes) = Err (not_legal session (record { line = seen.line; rule = rules.Extra }))
+-- bytes may follow the last reply; else these are the points of the accepted changes
+abbrev pub behind_last : ℕ → Seen → List ℕ → Result (List ℕ) Finding
+behind_last session seen [] = Ok seen.accepted
+behind_last session seen (byte ∷ bytes) = Err (not_legal session (record { line = seen.line; rule = rules.Extra }))
+
+-- the end of a session whose requests that are heard were all answered: its input may go on past the limits
+abbrev pub ended : ℕ → Bool → Seen → Result (List ℕ) Finding
+ended session is_long seen = if is_long then Err (TooLong session) else behind_last session seen seen.left
 
 abbrev pub of_session : ℕ → List ℕ → Result Seen Broken → Result (List ℕ) Finding
 of_session session input (Err broken) = Err (not_legal session broken)
-of_session session input (Ok seen) = ended session (is_past_limit input) seen seen.left
+of_session session input (Ok seen) = ended session (is_past_limit input) seen
 
 -- the points of some sessions, and then those of others
 abbrev pub and_then_points : Result (List ℕ) Finding → Result (List ℕ) Finding → Result (List ℕ) Finding
@@ -66,14 +66,15 @@ module _ (base : Contents) (entries : List Entry) where
 
 -- entries ------------------------------------------------------------------------------------------------------------------
 
+-- this number where something is refused, else a later one
+abbrev pub number_or_later : Option Refusal → ℕ → Option ℕ → Option ℕ
+number_or_later None number later = later
+number_or_later (Some refusal) number later = Some number
+
 -- the first entry that is refused after those before it, by its number from 1
 unfoldable pub first_refused : Contents → List Entry → List Entry → Option ℕ
 first_refused base done [] = None
-first_refused base done (entry ∷ entries) = or_later (refused base done entry.user entry.change) (length done + 1) (first_refused base (done ++ entry ∷ []) entries)
-  where
-    or_later : Option Refusal → ℕ → Option ℕ → Option ℕ
-    or_later None number later = later
-    or_later (Some refusal) number later = Some number
+first_refused base done (entry ∷ entries) = number_or_later (refused base done entry.user entry.change) (length done + 1) (first_refused base (done ++ entry ∷ []) entries)
 
 -- the first entry, of those numbered from `number` on, whose number isn't among these points
 unfoldable pub first_lost : List ℕ → ℕ → List Entry → Option Entry

@@ -3,9 +3,11 @@
 
 mod ahead;
 mod form;
+mod laws;
 mod replies;
 mod verdict;
 
 pub use form::ReplyForm;
+pub use laws::{seen_session_is_legal, unrefused_is_accepted};
 pub use replies::{NextReply, Replies, ReplyFault};
 pub use verdict::{AuditFault, AuditRule, Verdict};

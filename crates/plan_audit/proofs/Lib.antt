@@ -8,3 +8,7 @@ pub mod Accepted
 pub mod Judged
 pub mod Worked
 pub mod SeenSessions
+pub mod SeenRounds
+pub mod RisingLines
+pub mod Once
+pub mod LegalRuns

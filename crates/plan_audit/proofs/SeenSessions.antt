@@ -16,7 +16,7 @@ use Rattle.plan_audit.specs.declared.verdict.AuditRule.{AuditRule}
 use Rattle.plan_audit.specs.declared.verdict.AuditRule.TheVariants as rules
 use Rattle.plan_audit.specs.Inputs.{heard, whole_requests}
 use Rattle.plan_audit.specs.Judging.{point_in, is_in_order, has_entry, is_right, rule_broken, Seen, none_seen, Broken, if_sound, reply_seen, reply_read, seen_after, all_seen}
-use Rattle.plan_audit.specs.Verdicts.{Pair, TooLong, behind_last, of_session, session_seen}
+use Rattle.plan_audit.specs.Verdicts.{Pair, IsLong, behind_last, of_session, session_seen}
 use Rattle.plan_audit.specs.Laws.{IsLegalPair, SeenSessionIsLegal}
 use Rattle.plan_audit.proofs.Suffixes.{reply_ends, text_before}
 use Rattle.plan_audit.proofs.Judged.{judged}
@@ -126,7 +126,7 @@ module _ (base : Contents) (entries : List Entry) (session floor ceiling : ℕ) 
 
   -- the end of a session
   at_end : (pair : Pair) (points : List ℕ) (seen : Seen) (is_long : Bool) → is_past_limit pair.input ≡ is_long → (left : List ℕ) → seen.left ≡ left
-      → (if is_long then Err (TooLong session) else behind_last session seen left) ≡ Ok points → floor ≤ ceiling
+      → (if is_long then Err (IsLong session) else behind_last session seen left) ≡ Ok points → floor ≤ ceiling
       → all_seen base entries session floor ceiling (none_seen floor pair.output) (heard pair.input) ≡ Ok seen → IsLegalPair base entries session floor ceiling pair points
   unfolding heard
   at_end pair points seen true long left is e low all = let no = e in cc

@@ -1,13 +1,15 @@
 -- What the verdict rests on.
 use Rattle.std.specs.Prelude.{◌≡◌, ℕ, ◌≤◌, false, List, [], length, map, None, Ok}
+use Rattle.std.specs.List.{AllByRecursion}
 use Rattle.plan_schema.specs.declared.change.Entry.{Entry}
 use Rattle.plan_schema.specs.Contents.{Contents}
 use Rattle.command_words.specs.declared.reply.Reply.{Reply}
-use Rattle.scenario_rules.specs.Journal.{AreAccepted}
+use Rattle.scenario_rules.specs.Journal.{AreSound, AreAccepted}
 use Rattle.session_rules.specs.Requests.{requests_of}
-use Rattle.session_rules.specs.Runs.{Desk, IsDesk, AreRounds, accepted_points, accepted_in}
+use Rattle.session_rules.specs.Runs.{Desk, IsDesk, AreRounds, IsRun, accepted_points, accepted_in}
 use Rattle.request_loop.specs.Serving.{is_past_limit}
-use Rattle.plan_audit.specs.Verdicts.{Pair, session_seen, rounds_seen, first_refused}
+use Rattle.plan_audit.specs.Verdicts.{Pair, Finding, Judges, session_seen, rounds_seen, first_refused, audited}
+use Rattle.plan_audit.specs.declared.verdict.Verdict.TheVariants as verdicts
 
 -- a history in which no entry is refused first is one of accepted changes
 abbrev pub UnrefusedIsAccepted : Type 0
@@ -32,10 +34,15 @@ SeenSessionIsLegal = (base : Contents) (entries : List Entry) (session floor cei
 abbrev pub pair_at : Desk → Pair
 pair_at desk = record { input = desk.input; output = desk.output }
 
+-- none of the inputs is too long
+abbrev pub AreWithin : List (List Pair) → Type 0
+AreWithin rounds = AllByRecursion (λ pairs. AllByRecursion (λ (pair : Pair). is_past_limit pair.input ≡ false) pairs) rounds
+
 -- the sessions of some rounds are legal, and these are the points of their accepted changes
 pub record AreLegalRounds (base : Contents) (entries : List Entry) (session : ℕ) (rounds : List (List Pair)) (points : List ℕ) : Type 0 where
   pub desks : List (List Desk)
-  pub pairs_are : map (map pair_at) desks ≡ rounds
+  pub pairs_are : map (λ round. map pair_at round) desks ≡ rounds
+  pub within : AreWithin rounds
   pub legal : AreRounds base [] entries session desks
   pub points_are : points ≡ accepted_in desks
 
@@ -43,3 +50,15 @@ pub record AreLegalRounds (base : Contents) (entries : List Entry) (session : �
 abbrev pub SeenRoundsAreLegal : Type 0
 SeenRoundsAreLegal = (base : Contents) (entries : List Entry) (session : ℕ) (rounds : List (List Pair)) (points : List ℕ)
     → rounds_seen base entries session rounds ≡ Ok points → AreLegalRounds base entries session rounds points
+
+-- a legal run whose history these entries are: its sessions were sent and wrote this, and none of the inputs is too long
+pub record IsLegalRun (base : Contents) (entries : List Entry) (rounds : List (List Pair)) : Type 0 where
+  pub desks : List (List Desk)
+  pub pairs_are : map (λ round. map pair_at round) desks ≡ rounds
+  pub within : AreWithin rounds
+  pub run : IsRun base [] entries desks
+
+-- a run that is judged to be legal is; its journal holds entries of the grammar
+abbrev pub JudgedLegalIsLegal : Type 0
+JudgedLegalIsLegal = (base : Contents) (entries : List Entry) (rounds : List (List Pair))
+    → AreSound entries → audited base entries rounds ≡ Judges verdicts.Legal → IsLegalRun base entries rounds

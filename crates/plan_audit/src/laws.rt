@@ -1,5 +1,5 @@
 //! What holds of verdicts: each law is the contract of a function that does nothing.
-ghost use Rattle.plan_audit.specs.Laws.{UnrefusedIsAccepted, SeenSessionIsLegal};
+ghost use Rattle.plan_audit.specs.Laws.{UnrefusedIsAccepted, SeenSessionIsLegal, SeenRoundsAreLegal, JudgedLegalIsLegal};
 
 /// A history of which no entry is told to be refused has none that is.
 pub fn unrefused_is_accepted()
@@ -9,4 +9,15 @@ pub fn unrefused_is_accepted()
 /// A session in which nothing is found is legal.
 pub fn seen_session_is_legal()
     ensures { SeenSessionIsLegal }
+{}
+
+/// Rounds in which nothing is found are legal.
+pub fn seen_rounds_are_legal()
+    ensures { SeenRoundsAreLegal }
+{}
+
+/// A run that is judged to be legal is: its history is legal, so is each session, none of the inputs is too long, and each entry is printed
+/// by exactly one accepted change.
+pub fn judged_legal_is_legal()
+    ensures { JudgedLegalIsLegal }
 {}

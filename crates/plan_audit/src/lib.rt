@@ -8,6 +8,8 @@ mod replies;
 mod verdict;
 
 pub use form::ReplyForm;
-pub use laws::{seen_session_is_legal, unrefused_is_accepted};
+pub use laws::{
+    judged_legal_is_legal, seen_rounds_are_legal, seen_session_is_legal, unrefused_is_accepted,
+};
 pub use replies::{NextReply, Replies, ReplyFault};
 pub use verdict::{AuditFault, AuditRule, Verdict};

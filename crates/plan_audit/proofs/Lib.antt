@@ -12,3 +12,6 @@ pub mod SeenRounds
 pub mod RisingLines
 pub mod Once
 pub mod LegalRuns
+pub mod Itself
+pub mod SoundReplies
+pub mod SoundRuns

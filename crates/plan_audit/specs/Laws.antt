@@ -1,9 +1,10 @@
 -- What the verdict rests on.
-use Rattle.std.specs.Prelude.{◌≡◌, ℕ, ◌≤◌, false, List, [], length, map, None, Ok}
+use Rattle.std.specs.Prelude.{◌≡◌, ℕ, ◌≤◌, true, false, List, [], length, map, None, Ok}
 use Rattle.std.specs.List.{AllByRecursion}
 use Rattle.plan_schema.specs.declared.change.Entry.{Entry}
 use Rattle.plan_schema.specs.Contents.{Contents}
 use Rattle.command_words.specs.declared.reply.Reply.{Reply}
+use Rattle.command_words.specs.Forms.{is_within_limits}
 use Rattle.scenario_rules.specs.Journal.{AreSound, AreAccepted}
 use Rattle.session_rules.specs.Requests.{requests_of}
 use Rattle.session_rules.specs.Runs.{Desk, IsDesk, AreRounds, IsRun, accepted_points, accepted_in}
@@ -62,3 +63,13 @@ pub record IsLegalRun (base : Contents) (entries : List Entry) (rounds : List (L
 abbrev pub JudgedLegalIsLegal : Type 0
 JudgedLegalIsLegal = (base : Contents) (entries : List Entry) (rounds : List (List Pair))
     → AreSound entries → audited base entries rounds ≡ Judges verdicts.Legal → IsLegalRun base entries rounds
+
+-- each reply is within the limits that its form has
+abbrev pub AreInForm : List (List Desk) → Type 0
+AreInForm rounds = AllByRecursion (λ desks. AllByRecursion (λ (desk : Desk). AllByRecursion (λ reply. is_within_limits reply ≡ true) desk.replies_given) desks) rounds
+
+-- a legal run, none of whose inputs is too long and whose replies are within the limits of their form, is judged to be legal
+abbrev pub LegalIsJudgedLegal : Type 0
+LegalIsJudgedLegal = (base : Contents) (entries : List Entry) (desks : List (List Desk))
+    → IsRun base [] entries desks → AreWithin (map (λ round. map pair_at round) desks) → AreInForm desks
+    → audited base entries (map (λ round. map pair_at round) desks) ≡ Judges verdicts.Legal

@@ -1,5 +1,5 @@
 //! What holds of verdicts: each law is the contract of a function that does nothing.
-ghost use Rattle.plan_audit.specs.Laws.{UnrefusedIsAccepted, SeenSessionIsLegal, SeenRoundsAreLegal, JudgedLegalIsLegal};
+ghost use Rattle.plan_audit.specs.Laws.{UnrefusedIsAccepted, SeenSessionIsLegal, SeenRoundsAreLegal, JudgedLegalIsLegal, LegalIsJudgedLegal};
 
 /// A history of which no entry is told to be refused has none that is.
 pub fn unrefused_is_accepted()
@@ -20,4 +20,9 @@ pub fn seen_rounds_are_legal()
 /// by exactly one accepted change.
 pub fn judged_legal_is_legal()
     ensures { JudgedLegalIsLegal }
+{}
+
+/// A legal run is judged to be legal, where none of its inputs is too long and its replies are within the limits of their form.
+pub fn legal_is_judged_legal()
+    ensures { LegalIsJudgedLegal }
 {}

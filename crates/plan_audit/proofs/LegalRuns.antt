@@ -1,13 +1,11 @@
 -- A run that is judged to be legal is.
-use Rattle.std.proofs.Common.{◌≡◌, ℕ, ◌<◌, ◌≤◌, List, [], Option, Some, None, Result, Ok, Err, length, refl, sym, subst}
+use Rattle.std.proofs.Common.{◌≡◌, ℕ, List, [], Option, Some, None, Result, Ok, Err, refl, subst}
 use Rattle.plan_schema.specs.declared.change.Entry.{Entry}
 use Rattle.plan_schema.specs.Contents.{Contents}
 use Rattle.scenario_rules.specs.Journal.{AreSound}
-use Rattle.session_rules.specs.Runs.{accepted_in}
-use Rattle.plan_audit.specs.Judging.{Broken}
-use Rattle.plan_audit.specs.Verdicts.{Pair, Fault, Breaks, IsLong, Finding, Judges, finding_of, rounds_seen, first_refused, first_lost, judged_last, of_sessions, of_journal, audited}
+use Rattle.plan_audit.specs.Verdicts.{Pair, Fault, Breaks, IsLong, Judges, finding_of, rounds_seen, first_refused, first_lost, judged_last, of_sessions, of_journal, audited}
 use Rattle.plan_audit.specs.declared.verdict.Verdict.TheVariants as verdicts
-use Rattle.plan_audit.specs.Laws.{AreLegalRounds, IsLegalRun, JudgedLegalIsLegal}
+use Rattle.plan_audit.specs.Laws.{IsLegalRun, JudgedLegalIsLegal}
 use Rattle.plan_audit.proofs.Accepted.{unrefused_is_accepted}
 use Rattle.plan_audit.proofs.SeenRounds.{seen_rounds_are_legal}
 use Rattle.plan_audit.proofs.Once.{exactly_once}

@@ -2,7 +2,7 @@
 use Rattle.std.proofs.Common.{◌≡◌, ℕ, zero, suc, ◌+◌, ◌-◌, ◌<◌, ◌≤◌, eqb, Bool, true, false, cond, List, [], ◌∷◌, ◌++◌, Option, Some, None, length, refl, sym, ap, ◌∙◌, subst, arith, inl, inr, zero-add}
 use Rattle.std.proofs.lemmas.Bool.Decides.{eqb_tells}
 use Rattle.std.specs.Prelude.{◌⊎◌, ◌||◌, count_by, slice_get, if◌then◌else◌}
-use Rattle.std.specs.List.{list_any, flat_map}
+use Rattle.std.specs.List.{list_any}
 use Rattle.std.proofs.lemmas.List.Sums.{sum_by-append}
 use Rattle.plan_schema.specs.declared.name.Name.{Name}
 use Rattle.plan_schema.specs.declared.change.Entry.{Entry}
@@ -15,9 +15,7 @@ use Rattle.session_rules.specs.Runs.{Desk, AreDesks, AreRounds, accepted_point, 
 use Rattle.plan_audit.specs.Verdicts.{first_lost}
 use Rattle.plan_audit.proofs.SeenRounds.{counted_next}
 use Rattle.plan_audit.proofs.RisingLines.{RequestsRise, requests_rise}
-
-some_is : {A : Type 0} {a b : A} → Some a ≡ Some b → a ≡ b
-some_is is = cc
+use Rattle.plan_audit.proofs.Values.{some_is}
 
 -- how often a number stands in a list
 abbrev times : ℕ → List ℕ → ℕ

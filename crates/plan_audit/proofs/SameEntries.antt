@@ -2,21 +2,18 @@
 use Rattle.std.proofs.Common.{◌≡◌, true, List, [], ◌∷◌, ◌&&◌, refl, eqb-true}
 use Rattle.std.specs.Prelude.{◌==◌, Some}
 use Rattle.std.proofs.lemmas.Bool.{and_parts}
-use Rattle.plan_schema.specs.declared.name.Name.{Name}
 use Rattle.plan_schema.specs.declared.key.Key.{Key}
 use Rattle.plan_schema.specs.declared.key.Record.{Record}
 use Rattle.plan_schema.specs.declared.change.Change.{Change}
 use Rattle.plan_schema.specs.declared.change.Change.TheVariants as changes
 use Rattle.plan_schema.specs.declared.change.Entry.{Entry}
-use Rattle.plan_schema.specs.Key.{name_cmp, name_eq, key_cmp, key_eq}
+use Rattle.plan_schema.specs.Key.{name_eq, key_cmp, key_eq}
 use Rattle.scenario_rules.specs.Same.{same_record}
 use Rattle.scenario_rules.proofs.Maps.{is_equal}
-use Rattle.scenario_rules.proofs.Keys.{name_exact, key_exact}
+use Rattle.scenario_rules.proofs.Keys.{key_exact}
+use Rattle.scenario_rules.proofs.Wholeness.{one_name}
 use Rattle.scenario_rules.proofs.SameLaws.{same_is_equal}
 use Rattle.plan_audit.specs.Same.{same_rows, same_change, same_entry}
-
-one_name : (a b : Name) → name_eq a b ≡ true → a ≡ b
-one_name a b h = name_exact a b (is_equal (name_cmp a b) h)
 
 one_key : (a b : Key) → key_eq a b ≡ true → a ≡ b
 one_key a b h = key_exact a b (is_equal (key_cmp a b) h)

@@ -1,17 +1,16 @@
 -- Rounds in which nothing is found are legal.
 use Rattle.std.proofs.Common.{◌≡◌, ℕ, ◌+◌, ◌≤◌, ltb, leb, Bool, true, false, cond, ◌&&◌, List, [], ◌∷◌, ◌++◌, Result, Ok, Err, length, map, refl, sym, ap, ◌∙◌, subst, arith, ltb-true, lt-ltb, zero-add}
 use Rattle.std.specs.Prelude.{count_by}
-use Rattle.std.specs.List.{flat_map, AllByRecursion}
+use Rattle.std.specs.List.{AllByRecursion}
 use Rattle.std.proofs.lemmas.Bool.{and_parts}
 use Rattle.std.proofs.lemmas.List.{length-map}
 use Rattle.std.proofs.lemmas.List.Sums.{count_by-le-length, sum_by-append}
 use Rattle.plan_schema.specs.declared.change.Entry.{Entry}
 use Rattle.plan_schema.specs.Contents.{Contents}
-use Rattle.session_rules.specs.Runs.{Desk, IsDesk, AreDesks, AreRounds, entries_of, accepted_at, accepted_in}
+use Rattle.session_rules.specs.Runs.{Desk, AreDesks, AreRounds, entries_of, accepted_at}
 use Rattle.request_loop.specs.Serving.{is_past_limit}
-use Rattle.plan_audit.specs.Judging.{if_sound}
 use Rattle.plan_audit.specs.Verdicts.{Pair, Fault, and_then_points, session_seen, round_seen, rounds_seen}
-use Rattle.plan_audit.specs.Laws.{IsLegalPair, AreLegalRounds, SeenRoundsAreLegal, AreWithin, desk_of, pair_at}
+use Rattle.plan_audit.specs.Laws.{AreLegalRounds, SeenRoundsAreLegal, desk_of, pair_at}
 use Rattle.plan_audit.proofs.SeenSessions.{ok_is, seen_session_is_legal}
 
 -- fewer sessions have fewer entries

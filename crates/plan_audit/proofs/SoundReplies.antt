@@ -1,6 +1,6 @@
 -- A legal reply breaks no rule.
-use Rattle.std.proofs.Common.{◌≡◌, ℕ, ◌+◌, ◌-◌, ◌<◌, ◌≤◌, ltb, leb, Bool, true, false, not, ◌&&◌, List, [], ◌∷◌, ◌++◌, Option, Some, None, Result, Ok, Err, length, take, refl, sym, ap, ◌∙◌, subst, arith, lt-ltb, le-leb, length-append, append_assoc, append-nil}
-use Rattle.std.specs.Prelude.{slice_get, nat_eq, if◌then◌else◌}
+use Rattle.std.proofs.Common.{◌≡◌, ℕ, ◌+◌, ◌-◌, ◌≤◌, Bool, true, not, List, [], ◌∷◌, ◌++◌, Option, Some, None, Ok, length, take, refl, sym, ap, ◌∙◌, subst, arith, lt-ltb, le-leb, length-append, append_assoc, append-nil}
+use Rattle.std.specs.Prelude.{nat_eq, if◌then◌else◌}
 use Rattle.std.specs.List.{flat_map, AllByRecursion}
 use Rattle.std.specs.Cmp.Lexicographic.{pointwise, bytes_decides}
 use Rattle.std.proofs.Math.Seq.{take-append_seam}
@@ -14,15 +14,12 @@ use Rattle.command_words.specs.Replies.{reply_text}
 use Rattle.command_words.proofs.Forms.{form_told}
 use Rattle.session_rules.specs.Requests.{Wish, Makes, Asks, IsBad, Request, user_after}
 use Rattle.session_rules.specs.Answers.{answer, change_answer}
-use Rattle.session_rules.specs.Sessions.{IsReplyTo, IsReply, AreReplies, point_after, needs_no_memory}
+use Rattle.session_rules.specs.Sessions.{IsReplyTo, IsReply, AreReplies, point_after}
 use Rattle.session_rules.specs.Runs.{accepted_point, accepted_points}
-use Rattle.plan_audit.specs.declared.verdict.AuditRule.{AuditRule}
 use Rattle.plan_audit.specs.declared.verdict.AuditRule.TheVariants as rules
-use Rattle.plan_audit.specs.Judging.{point_in, last_after, is_text_of, is_in_order, is_entry, has_entry, is_right, rule_broken, point_accepted, Seen, Broken, if_sound, reply_seen, reply_read, seen_after, all_seen}
+use Rattle.plan_audit.specs.Judging.{point_in, last_after, is_text_of, is_in_order, is_entry, has_entry, is_right, rule_broken, point_accepted, Seen, if_sound, reply_seen, reply_read, seen_after, all_seen}
 use Rattle.plan_audit.proofs.Itself.{entry_itself}
-
-both : {a b : Bool} → a ≡ true → b ≡ true → (a && b) ≡ true
-both h k = λ i. h i && k i
+use Rattle.plan_audit.proofs.Values.{both_pass}
 
 text_itself : (text : List ℕ) → pointwise nat_eq text text ≡ true
 text_itself text = (bytes_decides text text).1 refl
@@ -37,7 +34,7 @@ module _ (base : Contents) (entries : List Entry) (session floor ceiling last : 
     right : is_right base entries session user wish (form reply) (reply_text reply) ≡ true
 
   ordered : (point : ℕ) → last ≤ point → point ≤ ceiling → is_in_order last ceiling (Some point) ≡ true
-  ordered point later under = both (le-leb last point later) (le-leb point ceiling under)
+  ordered point later under = both_pass (le-leb last point later) (le-leb point ceiling under)
 
   spelled : (reply : Reply) (right : Option Reply) → right ≡ Some reply → is_text_of (reply_text reply) right ≡ true
   spelled reply right is = ap (is_text_of (reply_text reply)) is ∙ text_itself (reply_text reply)
@@ -47,7 +44,7 @@ module _ (base : Contents) (entries : List Entry) (session floor ceiling last : 
       let made : Entry = record { session = session; line = line; user = user; change = change } in
       record {
         order = ordered point legal.in_order.later under;
-        entry = both (lt-ltb floor point legal.entry.above) (ap (is_entry made) legal.entry.entry ∙ entry_itself made);
+        entry = both_pass (lt-ltb floor point legal.entry.above) (ap (is_entry made) legal.entry.entry ∙ entry_itself made);
         right = text_itself (reply_text (replies.Ok point));
       }
   sound (Makes change) (replies.Rows point lines) legal under = absurd legal
@@ -66,7 +63,7 @@ module _ (base : Contents) (entries : List Entry) (session floor ceiling last : 
   sound (Asks command) (replies.No point refusal) legal under =
       record { order = ordered point legal.in_order.later under; entry = refl; right = spelled (replies.No point refusal) (answer base (take point entries) user command) legal.right }
   sound (Asks command) (replies.Bad bad) legal under = absurd legal
-  sound (Asks command) replies.Mem legal under = record { order = refl; entry = refl; right = both (ap not legal) (text_itself (reply_text replies.Mem)) }
+  sound (Asks command) replies.Mem legal under = record { order = refl; entry = refl; right = both_pass (ap not legal) (text_itself (reply_text replies.Mem)) }
   sound (IsBad bad) reply legal under = subst (IsSound (IsBad bad)) (sym legal) (record { order = refl; entry = refl; right = text_itself (reply_text (replies.Bad bad)) })
 
 -- the form of a reply tells its point, and the point of an accepted change
@@ -112,8 +109,8 @@ module _ (base : Contents) (entries : List Entry) (session floor ceiling : ℕ) 
       let text : take (length left - length rest) left ≡ reply_text reply = ap (λ n. take n left) count ∙ ap (take (length (reply_text reply))) is ∙ take-append_seam (reply_text reply) rest in
       let s = sound base entries session floor ceiling seen.last seen.user request.line request.wish reply legal under in
       let none =
-          none_broken (is_in_order seen.last ceiling (point_in (form reply))) (has_entry base entries session floor request.line seen.user request.wish (form reply))
-          (is_right base entries session seen.user request.wish (form reply) (reply_text reply)) s.order s.entry s.right in
+      none_broken (is_in_order seen.last ceiling (point_in (form reply))) (has_entry base entries session floor request.line seen.user request.wish (form reply))
+      (is_right base entries session seen.user request.wish (form reply) (reply_text reply)) s.order s.entry s.right in
       ap (reply_read base entries session floor ceiling seen request (byte ∷ bytes)) told
       ∙ ap (λ t. reply_seen base entries session floor ceiling seen request (form reply) rest (rule_broken base entries session floor ceiling seen.last seen.user request (form reply) t)) text
       ∙ ap (reply_seen base entries session floor ceiling seen request (form reply) rest) none

@@ -1,23 +1,20 @@
 -- A legal run is judged to be legal.
-use Rattle.std.proofs.Common.{◌≡◌, ℕ, zero, suc, ◌+◌, ◌-◌, ◌<◌, ◌≤◌, eqb, Bool, true, false, cond, ◌&&◌, List, [], ◌∷◌, ◌++◌, Option, Some, None, Result, Ok, Err, length, map, take, refl, sym, ap, ◌∙◌, subst, arith, append-nil, append_assoc, zero-add}
+use Rattle.std.proofs.Common.{◌≡◌, ℕ, suc, ◌+◌, ◌<◌, ◌≤◌, eqb, Bool, true, false, cond, List, [], ◌∷◌, ◌++◌, Some, None, Ok, Err, length, map, take, refl, sym, ap, ◌∙◌, subst, arith, append-nil, append_assoc, zero-add}
 use Rattle.std.specs.Prelude.{IfSome, slice_get, count_by, ◌||◌, if◌then◌else◌}
 use Rattle.std.specs.List.{list_any, flat_map, AllByRecursion}
 use Rattle.std.proofs.lemmas.List.{length-map}
 use Rattle.plan_schema.specs.declared.change.Entry.{Entry}
-use Rattle.plan_schema.specs.declared.refusal.Refusal.{Refusal}
 use Rattle.plan_schema.specs.Contents.{Contents}
 use Rattle.command_words.specs.Forms.{is_within_limits}
 use Rattle.command_words.specs.Replies.{reply_text}
 use Rattle.scenario_rules.specs.Refused.{refused}
-use Rattle.scenario_rules.specs.Journal.{AreAccepted}
 use Rattle.session_rules.specs.Requests.{requests_of}
-use Rattle.session_rules.specs.Runs.{Desk, IsDesk, AreDesks, AreRounds, IsRun, entries_of, accepted_points, accepted_at, accepted_in}
+use Rattle.session_rules.specs.Runs.{Desk, IsDesk, AreDesks, AreRounds, entries_of, accepted_points, accepted_at, accepted_in}
 use Rattle.request_loop.specs.Reading.{counted_lines}
 use Rattle.request_loop.specs.Serving.{is_past_limit, lines_within}
 use Rattle.plan_audit.specs.Inputs.{heard, whole_requests}
-use Rattle.plan_audit.specs.Judging.{if_sound, none_seen, all_seen}
-use Rattle.plan_audit.specs.Verdicts.{Pair, Fault, IsLong, Finding, Judges, behind_last, of_session, and_then_points, session_seen, round_seen, rounds_seen, number_or_later, first_refused, first_lost, judged_last, of_sessions, of_journal, audited}
-use Rattle.plan_audit.specs.declared.verdict.Verdict.TheVariants as verdicts
+use Rattle.plan_audit.specs.Judging.{none_seen, all_seen}
+use Rattle.plan_audit.specs.Verdicts.{Pair, IsLong, behind_last, of_session, and_then_points, session_seen, round_seen, rounds_seen, number_or_later, first_refused, first_lost, judged_last, of_sessions, of_journal, audited}
 use Rattle.plan_audit.specs.Laws.{pair_at, AreWithin, AreInForm, LegalIsJudgedLegal}
 use Rattle.plan_audit.proofs.SeenRounds.{counted_next}
 use Rattle.plan_audit.proofs.SoundReplies.{all_so}
@@ -55,7 +52,7 @@ module _ (base : Contents) (entries : List Entry) where
       let floor = entries_of entries 0 session in
       let ceiling = entries_of entries 0 (session + length desks) in
       let here : AreDesks base entries floor ceiling session desks =
-          subst (λ n. AreDesks base entries floor n session desks) (zero-add ceiling) (subst (λ n. AreDesks base entries n (0 + ceiling) session desks) (zero-add floor) legal.0) in
+      subst (λ n. AreDesks base entries floor n session desks) (zero-add ceiling) (subst (λ n. AreDesks base entries n (0 + ceiling) session desks) (zero-add floor) legal.0) in
       let own = round_so floor ceiling session desks here within.0 short.0 in
       let more = rounds_so (session + length desks) rounds legal.1 within.1 short.1 in
       ap (λ n. and_then_points (round_seen base entries floor (entries_of entries 0 (session + n)) session (map pair_at desks)) (rounds_seen base entries (session + n) (map (λ round. map pair_at round) rounds))) many
@@ -106,8 +103,8 @@ legal_is_judged_legal base entries desks run within short =
     let journal = unrefused base entries [] entries run.history_is.accepted in
     let seen = rounds_so base entries 1 desks run.sessions within short in
     let lost = none_lost (accepted_in desks) 1 entries (λ k inside.
-        let above : 0 < 1 + k = omega arith in
-        let not_past : 1 + k ≤ length entries = omega (arith, inside) in
-        let once = run.once (1 + k) above not_past in
-        omega (arith, once)) in
+    let above : 0 < 1 + k = omega arith in
+    let not_past : 1 + k ≤ length entries = omega (arith, inside) in
+    let once = run.once (1 + k) above not_past in
+    omega (arith, once)) in
     ap (λ number. of_journal number (of_sessions entries (rounds_seen base entries 1 rounds))) journal ∙ ap (of_sessions entries) seen ∙ ap judged_last lost

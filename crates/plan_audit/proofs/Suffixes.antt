@@ -4,9 +4,7 @@ use Rattle.std.specs.Prelude.{◌&&◌, if◌then◌else◌}
 use Rattle.std.proofs.Math.Seq.{take-append_seam}
 use Rattle.std.proofs.lemmas.List.{take-append-drop}
 use Rattle.command_words.specs.Forms.{Form, whole_reply, line_cut, lines_cut, lines_in, form_of_line, if_read_on, place_of, longest_line}
-
-some_is : {A : Type 0} {a b : A} → Some a ≡ Some b → a ≡ b
-some_is is = cc
+use Rattle.plan_audit.proofs.Values.{some_is}
 
 -- a text with this end
 pub record Ends (text behind : List ℕ) : Type 0 where

@@ -1,20 +1,34 @@
 -- What the verdict rests on.
-use Rattle.std.specs.Prelude.{◌≡◌, ℕ, ◌≤◌, true, false, List, [], length, map, None, Ok}
+use Rattle.std.specs.Prelude.{◌≡◌, ℕ, ◌≤◌, true, false, List, [], length, map, None, Ok, ◌-◌, Some, take, slice_get}
 use Rattle.std.specs.List.{AllByRecursion}
 use Rattle.plan_schema.specs.declared.change.Entry.{Entry}
+use Rattle.plan_schema.specs.declared.refusal.Refusal.{Refusal}
 use Rattle.plan_schema.specs.Contents.{Contents}
 use Rattle.command_words.specs.declared.reply.Reply.{Reply}
 use Rattle.command_words.specs.Forms.{is_within_limits}
+use Rattle.scenario_rules.specs.Refused.{refused}
 use Rattle.scenario_rules.specs.Journal.{AreSound, AreAccepted}
 use Rattle.session_rules.specs.Requests.{requests_of}
 use Rattle.session_rules.specs.Runs.{Desk, IsDesk, AreRounds, IsRun, accepted_points, accepted_in}
 use Rattle.request_loop.specs.Serving.{is_past_limit}
-use Rattle.plan_audit.specs.Verdicts.{Pair, Finding, Judges, session_seen, rounds_seen, first_refused, audited}
+use Rattle.plan_audit.specs.Verdicts.{Pair, Judges, session_seen, rounds_seen, first_refused, audited}
 use Rattle.plan_audit.specs.declared.verdict.Verdict.TheVariants as verdicts
 
 -- a history in which no entry is refused first is one of accepted changes
 abbrev pub UnrefusedIsAccepted : Type 0
 UnrefusedIsAccepted = (base : Contents) (entries : List Entry) → first_refused base [] entries ≡ None → AreAccepted base entries
+
+-- the entry with this number is refused after those before it, and none of these is
+pub record IsFirstRefused (base : Contents) (entries : List Entry) (number : ℕ) : Type 0 where
+  pub entry : Entry
+  pub there : slice_get entries (number - 1) ≡ Some entry
+  pub some : 1 ≤ number
+  pub refusal : Refusal
+  pub refused_so : refused base (take (number - 1) entries) entry.user entry.change ≡ Some refusal
+  pub before : AreAccepted base (take (number - 1) entries)
+
+abbrev pub RefusedIsFirst : Type 0
+RefusedIsFirst = (base : Contents) (entries : List Entry) (number : ℕ) → first_refused base [] entries ≡ Some number → IsFirstRefused base entries number
 
 -- a desk at which these replies were given
 abbrev pub desk_of : Pair → List Reply → Desk

@@ -1,9 +1,14 @@
 //! What holds of verdicts: each law is the contract of a function that does nothing.
-ghost use Rattle.plan_audit.specs.Laws.{UnrefusedIsAccepted, SeenSessionIsLegal, SeenRoundsAreLegal, JudgedLegalIsLegal, LegalIsJudgedLegal};
+ghost use Rattle.plan_audit.specs.Laws.{UnrefusedIsAccepted, RefusedIsFirst, SeenSessionIsLegal, SeenRoundsAreLegal, JudgedLegalIsLegal, LegalIsJudgedLegal};
 
 /// A history of which no entry is told to be refused has none that is.
 pub fn unrefused_is_accepted()
     ensures { UnrefusedIsAccepted }
+{}
+
+/// An entry that is told to be refused is, and none before it.
+pub fn refused_is_first()
+    ensures { RefusedIsFirst }
 {}
 
 /// A session in which nothing is found is legal.

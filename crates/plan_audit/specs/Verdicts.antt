@@ -43,12 +43,12 @@ behind_last session seen [] = Ok seen.accepted
 behind_last session seen (byte ∷ bytes) = Err (Breaks session (record { line = seen.line; rule = rules.Extra }))
 
 -- the end of a session whose requests that are heard were all answered: its input may go on past the limits
-abbrev pub ended : ℕ → Bool → Seen → Result (List ℕ) Fault
-ended session is_long seen = if is_long then Err (IsLong session) else behind_last session seen seen.left
+abbrev pub at_its_end : ℕ → Bool → Seen → Result (List ℕ) Fault
+at_its_end session is_long seen = if is_long then Err (IsLong session) else behind_last session seen seen.left
 
 abbrev pub of_session : ℕ → List ℕ → Result Seen Broken → Result (List ℕ) Fault
 of_session session input (Err broken) = Err (Breaks session broken)
-of_session session input (Ok seen) = ended session (is_past_limit input) seen
+of_session session input (Ok seen) = at_its_end session (is_past_limit input) seen
 
 -- the points of some sessions, and then those of others
 abbrev pub and_then_points : Result (List ℕ) Fault → Result (List ℕ) Fault → Result (List ℕ) Fault

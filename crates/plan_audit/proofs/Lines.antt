@@ -9,9 +9,7 @@ use Rattle.std.proofs.lemmas.List.Sums.{position_or_len_is, passes_at_first}
 use Rattle.command_words.specs.Forms.{line_cut, lines_cut, longest_line, place_of, if_read_on}
 use Rattle.command_words.specs.Replies.{ended}
 use Rattle.plan_audit.specs.Ahead.{still, TellsEnd, GivesByte, TookLine, TookLines}
-
-some_is : {A : Type 0} {a b : A} → Some a ≡ Some b → a ≡ b
-some_is is = cc
+use Rattle.plan_audit.proofs.Values.{some_is}
 
 -- what follows the first byte of a list
 first_is : (b c : ℕ) (xs ys : List ℕ) → b ∷ xs ≡ c ∷ ys → b ≡ c

@@ -9,10 +9,10 @@ use Rattle.command_words.specs.declared.reply.Reply.{Reply}
 use Rattle.command_words.specs.declared.reply.Reply.TheVariants as replies
 use Rattle.command_words.specs.Forms.{Form, Done, Listed, Refused, Faulty, NoMemory, whole_reply}
 use Rattle.command_words.specs.Replies.{reply_text}
-use Rattle.plan_journal.specs.Entries.{entry_text}
 use Rattle.session_rules.specs.Requests.{Wish, Makes, Asks, IsBad, Request, user_after, guest}
 use Rattle.session_rules.specs.Answers.{answer, change_answer}
 use Rattle.session_rules.specs.Sessions.{needs_no_memory}
+use Rattle.plan_audit.specs.Same.{same_entry}
 use Rattle.plan_audit.specs.declared.verdict.AuditRule.{AuditRule}
 use Rattle.plan_audit.specs.declared.verdict.AuditRule.TheVariants as rules
 
@@ -40,37 +40,35 @@ abbrev pub is_in_order : ℕ → ℕ → Option ℕ → Bool
 is_in_order last ceiling None = true
 is_in_order last ceiling (Some point) = nat_le last point && nat_le point ceiling
 
-module _ (base : Contents) (entries : List Entry) (session : ℕ) where
-  -- the entry with this number is the one with these words: an entry has one spelling
-  abbrev pub is_entry_text : ℕ → List ℕ → Option Entry → Bool
-  is_entry_text number text None = false
-  is_entry_text number text (Some entry) = pointwise nat_eq text (entry_text number entry)
+-- the entry at a place is this one
+abbrev pub is_entry : Entry → Option Entry → Bool
+is_entry made None = false
+is_entry made (Some entry) = same_entry made entry
 
+module _ (base : Contents) (entries : List Entry) (session : ℕ) where
   -- entry number `point` stands above the floor, and is this change, made by this user in this line of the session
   abbrev pub is_entered : ℕ → ℕ → Name → Change → ℕ → Bool
   is_entered floor line user change point =
-      let made : Entry = record { session = session; line = line; user = user; change = change } in
-      nat_lt floor point && is_entry_text point (entry_text point made) (slice_get entries (point - 1))
+      nat_lt floor point && is_entry (record { session = session; line = line; user = user; change = change }) (slice_get entries (point - 1))
 
   -- an accepted change must have been entered
   abbrev pub has_entry : ℕ → ℕ → Name → Wish → Form → Bool
   has_entry floor line user (Makes change) (Done point) = is_entered floor line user change point
   has_entry floor line user wish form = true
 
-  -- the reply that the definitions give to a request at a point; what isn't in the grammar is told so at any point, or at none
+  -- the reply that the definitions give to a request at a point
   abbrev pub right_reply : Name → Wish → Option ℕ → Option Reply
-  right_reply user (IsBad bad) point = Some (replies.Bad bad)
   right_reply user (Makes change) (Some point) = change_answer base (take point entries) user change
   right_reply user (Asks command) (Some point) = answer base (take point entries) user command
-  right_reply user (Makes change) None = None
-  right_reply user (Asks command) None = None
+  right_reply user wish point = None
 
-  -- the reply is what the request is to be answered: an accepted change has no other answer than its entry, and there may be no memory
-  -- for what needs some
+  -- the reply is what the request is to be answered: an accepted change has no other answer than its point, there may be no memory for
+  -- what needs some, and what isn't in the grammar is told so, at no point
   abbrev pub is_right : Name → Wish → Form → List ℕ → Bool
-  is_right user (Makes change) (Done point) text = true
-  is_right user (Makes change) NoMemory text = true
-  is_right user (Asks command) NoMemory text = not (needs_no_memory command)
+  is_right user (Makes change) (Done point) text = is_text_of text (Some (replies.Ok point))
+  is_right user (Makes change) NoMemory text = is_text_of text (Some replies.Mem)
+  is_right user (Asks command) NoMemory text = not (needs_no_memory command) && is_text_of text (Some replies.Mem)
+  is_right user (IsBad bad) Faulty text = is_text_of text (Some (replies.Bad bad))
   is_right user wish form text = is_text_of text (right_reply user wish (point_in form))
 
   -- the first rule that a whole reply in form breaks

@@ -1,6 +1,8 @@
 pub mod Inputs
+pub mod Same
 pub mod Judging
 pub mod Verdicts
+pub mod Laws
 pub mod Causes
 pub mod Ahead
 pub mod Buffers

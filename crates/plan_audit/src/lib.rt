@@ -3,9 +3,14 @@
 
 mod ahead;
 mod form;
+mod laws;
 mod replies;
 mod verdict;
 
 pub use form::ReplyForm;
+pub use laws::{
+    judged_legal_is_legal, legal_is_judged_legal, refused_is_first, seen_rounds_are_legal,
+    seen_session_is_legal, unrefused_is_accepted,
+};
 pub use replies::{NextReply, Replies, ReplyFault};
-pub use verdict::{AuditFault, AuditRule, Verdict};
+pub use verdict::{AuditRule, Verdict};

@@ -33,14 +33,3 @@ pub enum AuditRule {
     /// No accepted reply printed the entry.
     Lost,
 }
-
-/// Why there is no verdict.
-#[derive(Clone, Copy)]
-pub enum AuditFault {
-    /// A source failed.
-    Read,
-    /// An input is longer than a session's may be.
-    Limit,
-    /// There is no memory.
-    Memory,
-}

@@ -1,0 +1,5 @@
+pub mod Tally
+pub mod RoundLaws
+pub mod Fours
+pub mod Joins
+pub mod Meets

@@ -1,6 +1,8 @@
 -- Rounds of desks at one office: what each desk's session says of its pass, and what all of them come to.
-use Rattle.std.specs.Prelude.{◌≡◌, ℕ, true, ◌+◌, ◌≤◌, List, [], ◌∷◌, length, map}
+use Rattle.std.specs.Prelude.{◌≡◌, ℕ, true, ◌+◌, ◌≤◌, List, [], ◌∷◌, length, map, Some}
 use Rattle.std.specs.List.{flat_map, AllByRecursion}
+use Rattle.byte_lines.specs.declared.rounds.Served.TheVariants as ends
+use Rattle.command_words.specs.declared.reply.Reply.{Reply}
 use Rattle.command_words.specs.Replies.{reply_text}
 use Rattle.scenario_rules.specs.Journal.{IsLegal}
 use Rattle.session_rules.specs.Requests.{requests_of, guest}
@@ -8,8 +10,11 @@ use Rattle.session_rules.specs.Sessions.{AreReplies, point_after}
 use Rattle.session_rules.specs.Runs.{Desk, accepted_points, accepted_entries, IsRising, IsRun}
 use Rattle.turn_table.specs.Story as story
 use Rattle.turn_table.specs.Story.{Begins}
+use Rattle.turn_table.specs.Passes.{HasOwn}
 use Rattle.plan_book.specs.declared.ground.Ground.{Ground}
 use Rattle.plan_book.specs.Books.{Story, history, entries_in, story_of, point_of}
+use Rattle.plan_office.specs.Turns.{Known}
+use Rattle.sessions.specs.Serving.{ServesInTurns}
 
 -- a desk that was served, with the story that its pass had seen before and has seen since
 pub record Place : Type 0 where
@@ -61,3 +66,9 @@ module _ (began : Ground) where
 abbrev pub RoundsAreLegal : Type 0
 RoundsAreLegal = (began : Ground) (whole : Story) (rounds : List (List Place)) → AreServed began 1 [] rounds whole → AreKeptIn began whole 1 rounds → story.entries_of 0 whole ≡ []
     → IsLegal began.base (history began whole) → IsRun began.base began.earlier (entries_in whole) (map desks_of rounds)
+
+-- the law: a desk that was served to its end with a pass that had entered nothing yet is a place of a round
+abbrev pub DesksArePlaces : Type 0
+DesksArePlaces = (began : Ground) (p q : Known) (input output : List ℕ) (count : ℕ) → HasOwn p → p.own ≡ [] → HasOwn q → q.number ≡ p.number → Begins p.seen q.seen
+    → ServesInTurns began p q input (Some []) (Some output) (ends.Ended count)
+    → (given : List Reply) × IsPlaceServed began p.number (record { desk = record { input = input; output = output; replies_given = given }; seen = p.seen; then = q.seen })

@@ -5,6 +5,6 @@ mod laws;
 mod passes;
 mod round;
 
-pub use laws::rounds_are_legal;
+pub use laws::{desks_are_places, rounds_are_legal};
 pub use passes::{join_all, meet_all, split_all};
 pub use round::serve_desks;

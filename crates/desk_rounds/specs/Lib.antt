@@ -1,0 +1,4 @@
+pub mod Rounds
+pub mod Four
+pub mod PassLists
+pub mod DesksServed

@@ -1,0 +1,10 @@
+//! Desks in rounds at one office: the desks of a round are served side by side, each with a pass of its own.
+#![tactic(auto)]
+
+mod laws;
+mod passes;
+mod round;
+
+pub use laws::{desks_are_places, rounds_are_legal};
+pub use passes::{join_all, meet_all, split_all};
+pub use round::serve_desks;

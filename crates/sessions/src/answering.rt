@@ -30,9 +30,12 @@ impl<T: Reach> Answers for Session<T> {
 
     ghost ready = { λ session state. T.ready session.reach state };
 
-    ghost gives = { λ session old user request reply new. Gives (T.sight session.reach) old new user request reply };
+    ghost gives = { λ session old user request reply new.
+        Gives (T.sight session.reach) old new user request reply };
 
-    ghost stops = { λ session old user request why new. Stops (T.sight session.reach) (T.failed session.reach) (T.worn session.reach) old new user request why };
+    ghost stops = { λ session old user request why new.
+        Stops (T.sight session.reach) (T.failed session.reach) (T.worn session.reach)
+        old new user request why };
 
     fn change(
         &self,

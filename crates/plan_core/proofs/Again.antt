@@ -109,5 +109,5 @@ pub no_core : (base : Contents) (most : ℕ) (entries : List Entry) (core : Stat
 no_core base most entries core entry (faults.Refused point refusal) h found k =
     let long : length (take h.count entries) ≡ h.count = length-take-le h.count entries h.few in
     let at : slice_get entries h.count ≡ Some entry = subst (λ n. slice_get entries n ≡ Some entry) (ap length h.entered.entries_is ∙ long) found in
-    refused_again base most entries h.count core entry point refusal h.entered long at k.0 k.1.0 k.1.1
+    refused_again base most entries h.count core entry point refusal h.entered long at k.0 k.1 k.2
 no_core base most entries core entry faults.Memory h found k = tt

@@ -1,4 +1,4 @@
--- What the grammar tells of a run.
+-- What the grammar tells of a run, and of a base and an input that are to be made.
 use Rattle.std.proofs.Common.{◌≡◌, ◌∙◌, Ok, Err, ℕ, ◌+◌, ◌≤◌, nat_le, List, [], ◌∷◌, Bool, true, false, length, Option, Some, None, ap, sym, refl, subst, arith, if◌then◌else◌, ◌&&◌}
 use Rattle.std.specs.Prelude.{option_map, option_and_then}
 use Rattle.std.specs.Result.{result_ok}
@@ -11,15 +11,19 @@ use Rattle.program_words.specs.declared.names.RoundWords.{RoundWords}
 use Rattle.program_words.specs.declared.program.Program.TheVariants as program
 use Rattle.program_words.specs.declared.program.RunWords.{RunWords}
 use Rattle.program_words.specs.declared.program.Still.{Still}
+use Rattle.program_words.specs.declared.program.Still.TheVariants as still
 use Rattle.program_words.specs.declared.read.TheConstants.{MEMO_LIMIT, MEMO_DEFAULT}
+use Rattle.plan_schema.specs.declared.limits.TheConstants.{PART_LIMIT}
 use Rattle.program_words.specs.declared.rounds.PlacedPair.{PlacedPair}
 use Rattle.program_words.specs.declared.rounds.TheConstants.{PAIR_LIMIT}
 use Rattle.program_words.specs.declared.verb.Verb.{Verb}
 use Rattle.program_words.specs.declared.verb.Verb.TheVariants as verb
+use Rattle.program_words.specs.declared.verb.StillVerb.{StillVerb}
+use Rattle.program_words.specs.declared.verb.StillVerb.TheVariants as which
 use Rattle.program_words.specs.Cut.{Cut, cut_words}
 use Rattle.program_words.specs.Rounds.{Pair, rounds_in, rounds_of, rounds_from, placed_pairs, pair_of, all_pairs}
 use Rattle.program_words.specs.Names.{are_files, do_differ}
-use Rattle.program_words.specs.Words.{program_of, program_by, verb_of, run_words, run_with, round_words, with_files, memo_of, number_in, with_store, still_words, without_memo}
+use Rattle.program_words.specs.Words.{program_of, program_by, verb_of, run_words, run_with, round_words, with_files, memo_of, number_in, with_store, still_words, without_memo, parts_of, start_of, is_make, made, make_words, as_audit, replay_words, is_replay, tried, trial_words}
 use Rattle.program_words.proofs.AllPairs.{pairs_of_rounds}
 
 -- the files that are told
@@ -115,3 +119,104 @@ told (command ∷ words) run h =
     let known = from_option (verb_of command) (λ v. option_and_then (program_by v) (cut_words words false)) (program.Run run) h in
     let cut = from_option (cut_words words false) (program_by known.0) (program.Run run) known.1.1 in
     told_run cut.0 run (run_by known.0 cut.0 run cut.1.1)
+
+-- make ------------------------------------------------------------------------------------------------------------------------
+
+-- words of a base and an input that the grammar takes
+pub record IsMakeTold (parts : ℕ) (base input : List ℕ) : Type 0 where
+  pub files : is_make base input ≡ true
+  pub some : 1 ≤ parts
+  pub most : parts ≤ PART_LIMIT
+
+same_parts : (n s m t : ℕ) (b i c j : List ℕ) → still.Make n s b i ≡ still.Make m t c j → n ≡ m
+same_parts n s m t b i c j h = cc
+
+same_base : (n s m t : ℕ) (b i c j : List ℕ) → still.Make n s b i ≡ still.Make m t c j → b ≡ c
+same_base n s m t b i c j h = cc
+
+same_input : (n s m t : ℕ) (b i c j : List ℕ) → still.Make n s b i ≡ still.Make m t c j → i ≡ j
+same_input n s m t b i c j h = cc
+
+told_made : (parts start : Option ℕ) (base input : List ℕ) (n s : ℕ) (b i : List ℕ) → made parts start base input ≡ Some (still.Make n s b i) → (parts ≡ Some n) × (is_make b i ≡ true)
+told_made None start base input n s b i h = cc
+told_made (Some parts) None base input n s b i h = cc
+told_made (Some parts) (Some start) base input n s b i h =
+    let both = fit (is_make base input) (still.Make parts start base input) (still.Make n s b i) h in (
+      ap Some (same_parts parts start n s base input b i both.1),
+      subst (λ name. is_make name i ≡ true) (same_base parts start n s base input b i both.1)
+          (subst (λ name. is_make base name ≡ true) (same_input parts start n s base input b i both.1) both.0),
+    )
+
+make_from : (names : List (List ℕ)) (n s : ℕ) (b i : List ℕ) → make_words names ≡ Some (still.Make n s b i) → IsMakeTold n b i
+unfolding make_words
+make_from [] n s b i h = cc
+make_from (parts ∷ []) n s b i h = cc
+make_from (parts ∷ start ∷ []) n s b i h = cc
+make_from (parts ∷ start ∷ base ∷ []) n s b i h = cc
+make_from (parts ∷ start ∷ base ∷ input ∷ []) n s b i h =
+    let told = told_made (parts_of parts) (start_of start) base input n s b i h in
+    let ends = number_within 1 PART_LIMIT parts n told.0 in
+    record { files = told.1; some = ends.0; most = ends.1 }
+make_from (parts ∷ start ∷ base ∷ input ∷ more ∷ rest) n s b i h = cc
+
+no_audit : (found : Option RoundWords) (n s : ℕ) (b i : List ℕ) → option_map as_audit found ≡ Some (still.Make n s b i) → ⊥
+no_audit None n s b i h = cc
+no_audit (Some words) n s b i h = cc
+
+replay_no_make : (base journal input output : List ℕ) (n s : ℕ) (b i : List ℕ) → still.Replay base journal input output ≡ still.Make n s b i → ⊥
+replay_no_make base journal input output n s b i h = cc
+
+no_replay : (names : List (List ℕ)) (n s : ℕ) (b i : List ℕ) → replay_words names ≡ Some (still.Make n s b i) → ⊥
+unfolding replay_words
+no_replay [] n s b i h = cc
+no_replay (base ∷ []) n s b i h = cc
+no_replay (base ∷ journal ∷ []) n s b i h = cc
+no_replay (base ∷ journal ∷ input ∷ []) n s b i h = cc
+no_replay (base ∷ journal ∷ input ∷ output ∷ []) n s b i h =
+    replay_no_make base journal input output n s b i (fit (is_replay base journal input output) (still.Replay base journal input output) (still.Make n s b i) h).1
+no_replay (base ∷ journal ∷ input ∷ output ∷ more ∷ rest) n s b i h = cc
+
+no_tried : (parts start : Option ℕ) (n s : ℕ) (b i : List ℕ) → tried parts start ≡ Some (still.Make n s b i) → ⊥
+no_tried None start n s b i h = cc
+no_tried (Some parts) None n s b i h = cc
+no_tried (Some parts) (Some start) n s b i h = cc
+
+no_trial : (names : List (List ℕ)) (n s : ℕ) (b i : List ℕ) → trial_words names ≡ Some (still.Make n s b i) → ⊥
+unfolding trial_words
+no_trial [] n s b i h = cc
+no_trial (parts ∷ []) n s b i h = cc
+no_trial (parts ∷ start ∷ []) n s b i h = no_tried (parts_of parts) (start_of start) n s b i h
+no_trial (parts ∷ start ∷ more ∷ rest) n s b i h = cc
+
+still_make : (kind : StillVerb) (names : List (List ℕ)) (n s : ℕ) (b i : List ℕ) → still_words kind names ≡ Some (still.Make n s b i) → IsMakeTold n b i
+still_make which.Audit names n s b i h = absurd (no_audit (round_words names) n s b i h)
+still_make which.Replay names n s b i h = absurd (no_replay names n s b i h)
+still_make which.Make names n s b i h = make_from names n s b i h
+still_make which.Trial names n s b i h = absurd (no_trial names n s b i h)
+
+still_from : (memos : List (List ℕ)) (found : Option Still) (words : Still) → without_memo memos found ≡ Some (program.Still words) → found ≡ Some words
+still_from [] None words h = cc
+still_from [] (Some other) words h = cc
+still_from (value ∷ more) found words h = cc
+
+no_run : (found : Option RunWords) (words : Still) → option_map program.Run found ≡ Some (program.Still words) → ⊥
+no_run None words h = cc
+no_run (Some run) words h = cc
+
+no_store : (found : Option RunWords) (words : Still) → option_map (λ run. program.Keep (with_store run)) found ≡ Some (program.Still words) → ⊥
+no_store None words h = cc
+no_store (Some run) words h = cc
+
+make_by : (v : Verb) (cut : Cut) (n s : ℕ) (b i : List ℕ) → program_by v cut ≡ Some (program.Still (still.Make n s b i)) → IsMakeTold n b i
+make_by verb.Run cut n s b i h = absurd (no_run (run_words cut) (still.Make n s b i) h)
+make_by verb.Keep cut n s b i h = absurd (no_store (run_words cut) (still.Make n s b i) h)
+make_by (verb.Still kind) cut n s b i h = still_make kind cut.names n s b i (still_from cut.memos (still_words kind cut.names) (still.Make n s b i) h)
+
+pub told_make : (words : List (List ℕ)) (n s : ℕ) (b i : List ℕ) → program_of words ≡ Some (program.Still (still.Make n s b i)) → IsMakeTold n b i
+unfolding program_of
+told_make [] n s b i h = cc
+told_make (command ∷ words) n s b i h =
+    let asked = program.Still (still.Make n s b i) in
+    let known = from_option (verb_of command) (λ v. option_and_then (program_by v) (cut_words words false)) asked h in
+    let cut = from_option (cut_words words false) (program_by known.0) asked known.1.1 in
+    make_by known.0 cut.0 n s b i cut.1.1

@@ -8,7 +8,7 @@ use Rattle.plan_import.specs.declared.ImportFault.TheVariants as imports
 use Rattle.response_program.specs.declared.ending.Totals.{Totals}
 use Rattle.response_program.specs.Names.{Names, console}
 use Rattle.response_program.specs.Views.{View}
-use Rattle.response_program.specs.Outcomes.{Outcome, Done, NoMemory, Refused, NotOpened, NotRead, NotWritten, TooLong, HasCause, of_import, and_written}
+use Rattle.response_program.specs.Outcomes.{Outcome, Done, Made, NoMemory, Refused, NotOpened, NotRead, NotWritten, TooLong, HasCause, of_import, and_written}
 use Rattle.response_program.specs.Desks.{IsOpening}
 use Rattle.response_program.specs.Runs.{IsOfBase, IsCut}
 
@@ -16,6 +16,7 @@ pub written_done : (outcome : Outcome) (name : List ℕ) (written : Result (Unit
 written_done outcome name (Ok done) number is = (is, refl)
 written_done outcome name (Err sinks.Memory) number is = cc
 written_done (Done totals) name (Err sinks.Failed) number is = cc
+written_done (Made parts) name (Err sinks.Failed) number is = cc
 written_done NoMemory name (Err sinks.Failed) number is = cc
 written_done (Refused fault) name (Err sinks.Failed) number is = cc
 written_done (NotOpened other) name (Err sinks.Failed) number is = cc
@@ -27,6 +28,7 @@ pub written_long : (outcome : Outcome) (name : List ℕ) (written : Result (Unit
 written_long outcome name (Ok done) session is = is
 written_long outcome name (Err sinks.Memory) session is = cc
 written_long (Done totals) name (Err sinks.Failed) session is = cc
+written_long (Made parts) name (Err sinks.Failed) session is = cc
 written_long NoMemory name (Err sinks.Failed) session is = is
 written_long (Refused fault) name (Err sinks.Failed) session is = is
 written_long (NotOpened other) name (Err sinks.Failed) session is = is
@@ -38,6 +40,7 @@ pub written_refused : (outcome : Outcome) (name : List ℕ) (written : Result (U
 written_refused outcome name (Ok done) fault is = is
 written_refused outcome name (Err sinks.Memory) fault is = cc
 written_refused (Done totals) name (Err sinks.Failed) fault is = cc
+written_refused (Made parts) name (Err sinks.Failed) fault is = cc
 written_refused NoMemory name (Err sinks.Failed) fault is = is
 written_refused (Refused other) name (Err sinks.Failed) fault is = is
 written_refused (NotOpened other) name (Err sinks.Failed) fault is = is
@@ -49,6 +52,7 @@ pub written_opened : (outcome : Outcome) (name : List ℕ) (written : Result (Un
 written_opened outcome name (Ok done) failed is = is
 written_opened outcome name (Err sinks.Memory) failed is = cc
 written_opened (Done totals) name (Err sinks.Failed) failed is = cc
+written_opened (Made parts) name (Err sinks.Failed) failed is = cc
 written_opened NoMemory name (Err sinks.Failed) failed is = is
 written_opened (Refused other) name (Err sinks.Failed) failed is = is
 written_opened (NotOpened other) name (Err sinks.Failed) failed is = is
@@ -60,6 +64,7 @@ pub written_of_base : (names : Names) (outcome : Outcome) (name : List ℕ) (wri
 written_of_base names outcome name (Ok done) is = is
 written_of_base names outcome name (Err sinks.Memory) is = absurd is
 written_of_base names (Done totals) name (Err sinks.Failed) is = absurd is
+written_of_base names (Made parts) name (Err sinks.Failed) is = absurd is
 written_of_base names NoMemory name (Err sinks.Failed) is = is
 written_of_base names (Refused other) name (Err sinks.Failed) is = is
 written_of_base names (NotOpened other) name (Err sinks.Failed) is = is
@@ -78,6 +83,7 @@ pub opening_cut : (names : Names) (outcome : Outcome) → IsOpening outcome → 
 opening_cut names (NotOpened name) opening cut = cut
 opening_cut names NoMemory opening cut = cut
 opening_cut names (Done totals) opening cut = opening
+opening_cut names (Made parts) opening cut = opening
 opening_cut names (Refused fault) opening cut = opening
 opening_cut names (NotRead name) opening cut = opening
 opening_cut names (NotWritten name) opening cut = opening
@@ -87,6 +93,7 @@ pub opening_of_base : (names : Names) (outcome : Outcome) → IsOpening outcome 
 opening_of_base names (NotOpened name) opening base = base
 opening_of_base names NoMemory opening base = base
 opening_of_base names (Done totals) opening base = opening
+opening_of_base names (Made parts) opening base = opening
 opening_of_base names (Refused fault) opening base = opening
 opening_of_base names (NotRead name) opening base = opening
 opening_of_base names (NotWritten name) opening base = opening
@@ -96,6 +103,7 @@ pub written_cause : (old new : View) (outcome : Outcome) (name : List ℕ) (writ
 written_cause old new outcome name (Ok done) cause rose = cause
 written_cause old new outcome name (Err sinks.Memory) cause rose = tt
 written_cause old new (Done totals) name (Err sinks.Failed) cause rose = rose refl
+written_cause old new (Made parts) name (Err sinks.Failed) cause rose = rose refl
 written_cause old new NoMemory name (Err sinks.Failed) cause rose = cause
 written_cause old new (Refused fault) name (Err sinks.Failed) cause rose = cause
 written_cause old new (NotOpened other) name (Err sinks.Failed) cause rose = cause
@@ -114,6 +122,7 @@ pub written_cut : (names : Names) (outcome : Outcome) (name : List ℕ) (written
 written_cut names outcome name (Ok done) either cut = cut
 written_cut names outcome name (Err sinks.Memory) either cut = absurd cut
 written_cut names (Done totals) name (Err sinks.Failed) either cut = absurd (either cut.0 cut.1)
+written_cut names (Made parts) name (Err sinks.Failed) either cut = absurd (either cut.0 cut.1)
 written_cut names NoMemory name (Err sinks.Failed) either cut = cut
 written_cut names (Refused fault) name (Err sinks.Failed) either cut = cut
 written_cut names (NotOpened other) name (Err sinks.Failed) either cut = cut

@@ -1,7 +1,7 @@
 pub mod Tellings
 pub mod Chains
 pub mod Named
-pub mod Asked
+pub mod Asking
 pub mod NamesApart
 pub mod Opened
 pub mod Served
@@ -18,3 +18,4 @@ pub mod Queues
 pub mod Done
 pub mod Memory
 pub mod Unmade
+pub mod Makings

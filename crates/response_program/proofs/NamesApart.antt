@@ -1,12 +1,14 @@
--- The names of a run's files differ from each other and from the console's.
+-- The names of a run's files, and of those that are made, differ from each other and from the console's.
 use Rattle.std.proofs.Common.{◌≡◌, ◌≢◌, ℕ, List, [], ◌∷◌, Bool, true, false, not, ◌&&◌, bytes_eq, codes, refl, sym, ap, ◌∙◌, inl, inr}
 use Rattle.std.specs.List.{AllByRecursion, list_all, list_any}
 use Rattle.std.specs.Cmp.Lexicographic.{bytes_decides}
 use Rattle.std.proofs.lemmas.Bool.{and_parts, cases_Bool}
 use Rattle.program_words.specs.declared.program.RunWords.{RunWords}
 use Rattle.program_words.specs.Names.{is_file, has_files, are_files, is_input, is_output, is_apart, do_outputs_differ, do_differ}
+use Rattle.program_words.specs.Words.{is_make}
 use Rattle.program_words.proofs.Told.{IsTold}
 use Rattle.response_program.specs.Names.{Pair, console, IsApart, IsNoInput, AreOutputsApart, Differ, names_of}
+use Rattle.response_program.specs.Making.{AreApart}
 use Rattle.response_program.proofs.Named.{each}
 
 apart : (a b : List ℕ) → not (bytes_eq a b) ≡ true → a ≢ b
@@ -64,3 +66,9 @@ told_differ run told =
       no_input = each (λ (pair : Pair). not (is_input pair.output pairs)) (IsNoInput pairs) (λ pair. none_is (λ other. other.input) pair.output pairs) pairs written.0;
       outputs = outputs pairs written.1;
     }
+
+pub make_apart : (base input : List ℕ) → is_make base input ≡ true → AreApart base input
+make_apart base input h =
+    let all = and_parts (is_file base && is_file input) (not (bytes_eq base input)) h in
+    let files = and_parts (is_file base) (is_file input) all.0 in
+    record { base_input = apart base input all.1; base_console = no_console base files.0; input_console = no_console input files.1 }

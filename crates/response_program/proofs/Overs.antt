@@ -11,7 +11,7 @@ use Rattle.scenario_rules.specs.Journal.{IsLegal}
 use Rattle.response_program.specs.declared.ending.Totals.{Totals}
 use Rattle.response_program.specs.Names.{Pair, Names, Differ}
 use Rattle.response_program.specs.Views.{View, NoneFell}
-use Rattle.response_program.specs.Outcomes.{Outcome, Done, NoMemory, Refused, NotOpened, NotRead, NotWritten, TooLong, HasCause, and_written}
+use Rattle.response_program.specs.Outcomes.{Outcome, Done, Made, NoMemory, Refused, NotOpened, NotRead, NotWritten, TooLong, HasCause, and_written}
 use Rattle.response_program.specs.Desks.{HasServedAll, HasServedNone, IsOpening}
 use Rattle.response_program.specs.Runs.{Tells, IsNoOutput, IsOfBase, IsCut, AreCut, IsTooLongIn, HasRunOver}
 use Rattle.response_program.proofs.Chains.{both_fell, cause_later, cause_after}
@@ -121,6 +121,7 @@ of_base names None totals kind apart is = is
 of_base names (Some (NotRead name)) totals kind apart is = apart name refl is
 of_base names (Some (Refused fault)) totals kind apart is = kind (Refused fault) refl
 of_base names (Some (Done found)) totals kind apart is = is
+of_base names (Some (Made parts)) totals kind apart is = is
 of_base names (Some NoMemory) totals kind apart is = is
 of_base names (Some (NotOpened name)) totals kind apart is = is
 of_base names (Some (NotWritten name)) totals kind apart is = is

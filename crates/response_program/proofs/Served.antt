@@ -8,7 +8,7 @@ use Rattle.byte_lines.specs.declared.rounds.Served.{Served}
 use Rattle.byte_lines.specs.declared.rounds.Served.TheVariants as ends
 use Rattle.response_program.specs.Names.{Pair}
 use Rattle.response_program.specs.Views.{View}
-use Rattle.response_program.specs.Outcomes.{Outcome, Done, NoMemory, Refused, NotOpened, NotRead, NotWritten, TooLong, stop_of}
+use Rattle.response_program.specs.Outcomes.{Outcome, Done, Made, NoMemory, Refused, NotOpened, NotRead, NotWritten, TooLong, stop_of}
 use Rattle.response_program.specs.Desks as desks
 use Rattle.response_program.specs.Desks.{DeskView, HasServed, AreServed}
 use Rattle.response_program.proofs.Opened.{AreFresh}
@@ -91,6 +91,7 @@ faulty_read base _ _ (later desk ds outcome h) apart name is same = faulty_read 
 
 unfoldable pub IsOfDesk : Outcome → Type 0
 IsOfDesk (Done totals) = ⊥
+IsOfDesk (Made parts) = ⊥
 IsOfDesk NoMemory = Unit {0}
 IsOfDesk (Refused fault) = ⊥
 IsOfDesk (NotOpened name) = ⊥

@@ -1,4 +1,6 @@
 pub mod Words
+pub mod Console
+pub mod Making
 pub mod Names
 pub mod Views
 pub mod Outcomes

@@ -1,4 +1,4 @@
--- How a run comes out: its status, the console's line, and the cause of each fault.
+-- How a command comes out: its status, the console's line, and the cause of each fault.
 use Rattle.std.specs.Prelude.{ℕ, List, [], ◌∷◌, Option, Some, None, Result, Ok, Err, codes, decimal}
 use Rattle.plan_schema.specs.Outside.{Rose}
 use Rattle.plan_schema.specs.declared.outside.ShelfFault.{ShelfFault}
@@ -11,16 +11,19 @@ use Rattle.row_text.specs.Spelling.{words_text}
 use Rattle.command_words.specs.Replies.{ended, room_word, rule_word}
 use Rattle.plan_import.specs.declared.ImportFault.{ImportFault}
 use Rattle.plan_import.specs.declared.ImportFault.TheVariants as imports
+use Rattle.plan_make.specs.declared.fault.MakeFault.{MakeFault}
+use Rattle.plan_make.specs.declared.fault.MakeFault.TheVariants as makes
 use Rattle.response_program.specs.declared.ending.Totals.{Totals}
 use Rattle.response_program.specs.declared.ending.Ending.{Ending}
 use Rattle.response_program.specs.declared.ending.Ending.TheVariants as endings
 use Rattle.response_program.specs.Names.{Pair}
 use Rattle.response_program.specs.Views.{View}
 
--- everything ended, with these totals; there was no memory; the base is refused; a file can't be opened, read or written; the input of
+-- everything ended, with these totals; a base and an input of so many parts are made; there was no memory; the base is refused; a file can't be opened, read or written; the input of
 -- the session with this number is too long
 pub data Outcome : Type 0 where
   Done : Totals → Outcome
+  Made : ℕ → Outcome
   NoMemory : Outcome
   Refused : ImportFault → Outcome
   NotOpened : List ℕ → Outcome
@@ -30,6 +33,7 @@ pub data Outcome : Type 0 where
 
 abbrev pub outcome_of : Ending → Outcome
 outcome_of (endings.Done totals) = Done totals
+outcome_of (endings.Made parts) = Made parts
 outcome_of endings.Memory = NoMemory
 outcome_of (endings.Base fault) = Refused fault
 outcome_of (endings.Open name) = NotOpened name.now
@@ -40,6 +44,7 @@ outcome_of (endings.Limit session) = TooLong session
 -- the status of the program
 abbrev pub status_of : Outcome → ℕ
 status_of (Done totals) = 0
+status_of (Made parts) = 0
 status_of NoMemory = 1
 status_of (Refused fault) = 3
 status_of (NotOpened name) = 4
@@ -59,6 +64,7 @@ abbrev pub line_words : Outcome → List (List ℕ)
 line_words (Done totals) =
     codes "entries" ∷ decimal totals.entries ∷ codes "netted" ∷ decimal totals.work.netted ∷ codes "reused" ∷ decimal totals.work.reused ∷ codes "dropped"
     ∷ decimal totals.work.dropped ∷ []
+line_words (Made parts) = codes "parts" ∷ decimal parts ∷ []
 line_words NoMemory = codes "memory" ∷ []
 line_words (Refused fault) = codes "base" ∷ base_words fault
 line_words (NotOpened name) = codes "open" ∷ name ∷ []
@@ -98,9 +104,16 @@ stop_of pair session served = Some NoMemory
 -- the first fault stays, but want of memory tops all
 abbrev pub first_of_two : Outcome → List ℕ → Outcome
 first_of_two (Done totals) name = NotWritten name
+first_of_two (Made parts) name = NotWritten name
 first_of_two outcome name = outcome
 
 abbrev pub and_written : Outcome → List ℕ → Result (Unit {0}) SinkFault → Outcome
 and_written outcome name (Ok done) = outcome
 and_written outcome name (Err sinks.Failed) = first_of_two outcome name
 and_written outcome name (Err sinks.Memory) = NoMemory
+
+-- what making a base and an input of so many parts under two names comes to, by what came of writing them
+abbrev pub of_make : ℕ → List ℕ → List ℕ → Result (Unit {0}) MakeFault → Outcome
+of_make parts base input (Ok done) = Made parts
+of_make parts base input (Err (makes.Base fault)) = and_written (Made parts) base (Err fault)
+of_make parts base input (Err (makes.Input fault)) = and_written (Made parts) input (Err fault)

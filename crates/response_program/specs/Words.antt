@@ -3,13 +3,16 @@ use Rattle.std.specs.Prelude.{Option, Some, None, if◌then◌else◌}
 use Rattle.program_words.specs.Rounds.{have_one_pair_each}
 use Rattle.program_words.specs.declared.program.Program.{Program}
 use Rattle.program_words.specs.declared.program.Program.TheVariants as program
-use Rattle.program_words.specs.declared.program.RunWords.{RunWords}
+use Rattle.program_words.specs.declared.program.Still.TheVariants as still
+use Rattle.response_program.specs.declared.asked.Asked.{Asked}
+use Rattle.response_program.specs.declared.asked.Asked.TheVariants as asked
 
--- the run that a command line asks for, where its sessions come one after the other; nothing else is served
-abbrev pub served_by : Program → Option RunWords
-served_by (program.Run run) = if have_one_pair_each run.rounds then Some run else None
+-- what a command line asks for that is served: a run whose sessions come one after the other, and the making of a base and an input
+abbrev pub served_by : Program → Option Asked
+served_by (program.Run run) = if have_one_pair_each run.rounds then Some (asked.Run run) else None
+served_by (program.Still (still.Make parts start base input)) = Some (asked.Make (record { parts = parts; start = start; base = base; input = input }))
 served_by _ = None
 
-abbrev pub served_run : Option Program → Option RunWords
-served_run None = None
-served_run (Some asked) = served_by asked
+abbrev pub served : Option Program → Option Asked
+served None = None
+served (Some words) = served_by words

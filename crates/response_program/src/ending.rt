@@ -1,4 +1,4 @@
-//! How a run ends.
+//! How a command ends.
 ghost use Rattle.std.specs.Prelude.{◌≡◌, ◌≢◌, ◌≤◌, ◌∷◌, ◌++◌, [], length, option_map, unwrap_or};
 ghost use Rattle.plan_schema.specs.Outside.{Wrote};
 ghost use Rattle.response_program.specs.Outcomes as spec;
@@ -10,6 +10,7 @@ use crate::files::Pair;
 use byte_lines::{Served, ShelfFault, Sink, SinkFault, write_all};
 use command_words::{room_bytes, rule_bytes};
 use plan_import::ImportFault;
+use plan_make::MakeFault;
 use plan_walk::Tally;
 use row_text::{RowText, push_number, push_word};
 
@@ -20,10 +21,12 @@ pub struct Totals {
     pub work: Tally,
 }
 
-/// How a run ends, with the name of the file that failed.
+/// How a command ends, with the name of the file that failed.
 #[derive(Clone, Copy)]
 pub enum Ending<'a> {
     Done(Totals),
+    /// A base and an input of so many parts are made.
+    Made(u32),
     Memory,
     Base(ImportFault),
     Open(&'a str),
@@ -79,6 +82,23 @@ impl<'a> Ending<'a> {
         }
     }
 
+    /// How a base and an input of so many parts come out under their names, by what came of writing them.
+    pub fn of_make(
+        parts: u32,
+        base: &'a str,
+        input: &'a str,
+        made: Result<(), MakeFault>,
+    ) -> Ending<'a>
+        ensures { outcome_of result ≡ spec.of_make parts base.now input.now made }
+    {
+        let ending = Ending::Made(parts);
+        match made {
+            Ok(()) => ending,
+            Err(MakeFault::Base(fault)) => ending.and_written(base, Err(fault)),
+            Err(MakeFault::Input(fault)) => ending.and_written(input, Err(fault)),
+        }
+    }
+
     /// The ending after something more was written under a name. Want of memory tops all; else the first fault stays.
     pub fn and_written(self, name: &'a str, written: Result<(), SinkFault>) -> Ending<'a>
         ensures { outcome_of result ≡ spec.and_written (outcome_of self.entry) name.now written }
@@ -87,7 +107,7 @@ impl<'a> Ending<'a> {
             Ok(()) => self,
             Err(SinkFault::Memory) => Ending::Memory,
             Err(SinkFault::Failed) => match self {
-                Ending::Done(_) => Ending::Write(name),
+                Ending::Done(_) | Ending::Made(_) => Ending::Write(name),
                 ending => ending,
             },
         }
@@ -99,7 +119,7 @@ impl<'a> Ending<'a> {
         ensures known { result ≢ 2 }
     {
         match self {
-            Ending::Done(_) => 0,
+            Ending::Done(_) | Ending::Made(_) => 0,
             Ending::Memory => 1,
             Ending::Base(_) => 3,
             Ending::Open(_) => 4,
@@ -116,6 +136,7 @@ impl<'a> Ending<'a> {
     {
         match self {
             Ending::Done(totals) => write_all(console, done_line(totals).as_slice()),
+            Ending::Made(parts) => write_all(console, made_line(*parts).as_slice()),
             Ending::Memory => write_all(console, b"memory\n"),
             Ending::Base(fault) => write_all(console, base_line(*fault).as_slice()),
             Ending::Open(name) => tell_of(console, b"open ", name),
@@ -150,6 +171,17 @@ fn limit_line(session: u64) -> RowText
     let mut text = RowText::new();
     let _ = text.try_extend_from_slice(b"limit");
     push_number(&mut text, session);
+    let _ = text.try_push(b'\n');
+    text
+}
+
+/// The line of a base and an input that are made.
+fn made_line(parts: u32) -> RowText
+    ensures { result.items ≡ spec.console_line (spec.Made parts) }
+{
+    let mut text = RowText::new();
+    let _ = text.try_extend_from_slice(b"parts");
+    push_number(&mut text, u64::from(parts));
     let _ = text.try_push(b'\n');
     text
 }

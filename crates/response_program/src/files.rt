@@ -34,7 +34,7 @@ pub struct RunFiles<'p, 'a> {
 
 impl<'p, 'a> RunFiles<'p, 'a> {
     /// The names that a command line gives.
-    #[tactic(auto, using(crate::proofs::Asked::same_pairs))]
+    #[tactic(auto, using(crate::proofs::Asking::same_pairs))]
     pub fn of(run: &'p RunWords<'a>) -> RunFiles<'p, 'a>
         ensures { files_of result ≡ names_of run.entry.now }
     {

@@ -1,10 +1,13 @@
-//! The program: what its words ask for, and the run of sessions over a base.
+//! The program: what its words ask for, the run of sessions over a base, and the making of a base and an input.
 #![tactic(auto)]
 
+mod asked;
+mod console;
 mod desk;
 mod desks;
 mod ending;
 mod files;
+mod making;
 mod run;
 
 pub use run::response;

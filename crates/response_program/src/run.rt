@@ -1,5 +1,5 @@
-//! A run: sessions over a base, one after the other.
-ghost use Rattle.std.specs.Prelude.{◌≡◌, ◌≤◌, [], OnErr, IfOk, IfErr, None, Some, true, map, length, option_map, string_bytes};
+//! What the words ask for, and a run: sessions over a base, one after the other.
+ghost use Rattle.std.specs.Prelude.{◌≡◌, ◌≤◌, [], OnErr, IfOk, IfErr, None, Some, true, ℕ, List, map, length, option_map, string_bytes};
 ghost use Rattle.plan_schema.specs.Base.{is_base};
 ghost use Rattle.response_program.specs.Views.{view};
 ghost use Rattle.response_program.specs.Outcomes.{outcome_of};
@@ -9,23 +9,27 @@ ghost use Rattle.program_words.specs.Words.{program_of};
 ghost use Rattle.response_program.specs.Names.{Differ, files_of, names_of};
 ghost use Rattle.response_program.specs.Desks.{HasServedAll, HasServedNone};
 ghost use Rattle.response_program.specs.Runs.{HasRun, HasRunBook, HasRunOver};
-ghost use Rattle.response_program.specs.Words.{served_by, served_run};
+ghost use Rattle.response_program.specs.Words.{served};
+ghost use Rattle.response_program.specs.declared.asked.Asked.TheVariants as asked;
+ghost use Rattle.program_words.specs.declared.program.Program.TheVariants as program;
+ghost use Rattle.program_words.specs.declared.program.Still.TheVariants as still;
+ghost use Rattle.response_program.specs.Making.{HasMade};
 ghost use Rattle.response_program.specs.Responses.{HasResponded, HasRefused};
 
+use crate::asked::Asked;
+use crate::console::{CONSOLE, tell_ending};
 use crate::desks::{close_desks, open_desks, serve_desks};
 use crate::ending::{Ending, Totals};
 use crate::files::RunFiles;
+use crate::making::make_told;
 use byte_lines::{Shelf, ShelfFault, SinkFault, write_all};
 use plan_book::{Book, PlanBook};
 use plan_import::import;
 use plan_journal::write_journal;
 use plan_schema::Contents;
-use program_words::{Program, RunWords, WordFault, read_words};
+use program_words::{WordFault, read_words};
 use std::alloc::Global;
 use std::collections::VecDeque;
-
-/// The name of the console.
-const CONSOLE: &str = "-";
 
 /// The status of words that aren't the program's.
 const WORDS: u8 = 2;
@@ -37,36 +41,28 @@ const NO_MEMORY: u8 = 1;
 /// 1 for want of memory, 2 where the words aren't the program's, 3 where the base is refused, 4, 5 and 6 where a file couldn't be
 /// opened, read and written, and 7 where the input passed its limit.
 pub fn response<H: Shelf>(alloc: Global, words: &[String], shelf: &mut H) -> u8
-    ensures run { (run : Run) → served_run (program_of (map string_bytes words.now)) ≡ Some run
+    ensures run { (run : Run)
+        → served (program_of (map string_bytes words.now)) ≡ Some (asked.Run run)
         → HasResponded (view H.held H.open_faults H.read_faults H.write_faults shelf.old)
         (view H.held H.open_faults H.read_faults H.write_faults shelf.new) (names_of run) result }
-    ensures words { served_run (program_of (map string_bytes words.now)) ≡ None
+    ensures make { (parts start : ℕ) (base input : List ℕ)
+        → program_of (map string_bytes words.now)
+        ≡ Some (program.Still (still.Make parts start base input))
+        → HasMade (view H.held H.open_faults H.read_faults H.write_faults shelf.old)
+        (view H.held H.open_faults H.read_faults H.write_faults shelf.new) parts start base input
+        result }
+    ensures words { served (program_of (map string_bytes words.now)) ≡ None
         → HasRefused (view H.held H.open_faults H.read_faults H.write_faults shelf.old)
         (view H.held H.open_faults H.read_faults H.write_faults shelf.new) result }
 {
     match read_words(alloc, words) {
-        Ok(program) => match run_of(program) {
-            Some(run) => run_told(alloc, run.memo, &RunFiles::of(&run), shelf),
+        Ok(program) => match Asked::of(program) {
+            Some(Asked::Run(run)) => run_told(alloc, run.memo, &RunFiles::of(&run), shelf),
+            Some(Asked::Make(making)) => make_told(&making, shelf),
             None => refuse(shelf),
         },
         Err(WordFault::Words) => refuse(shelf),
         Err(WordFault::Memory) => NO_MEMORY,
-    }
-}
-
-/// The run that is asked for, where its sessions come one after the other: nothing else is served so far.
-fn run_of(program: Program<'_>) -> Option<RunWords<'_>>
-    ensures { result ≡ served_by program.entry }
-{
-    match program {
-        Program::Run(run) => {
-            if run.rounds.have_one_pair_each() {
-                Some(run)
-            } else {
-                None
-            }
-        }
-        Program::Keep(_) | Program::Still(_) => None,
     }
 }
 
@@ -98,14 +94,12 @@ fn run_told<H: Shelf>(alloc: Global, memo: u32, names: &RunFiles<'_, '_>, shelf:
         (view H.held H.open_faults H.read_faults H.write_faults shelf.new) (files_of names.now)
         result }
 {
-    let mut console = match shelf.make_out(CONSOLE) {
+    let console = match shelf.make_out(CONSOLE) {
         Ok(console) => console,
         Err(fault) => return Ending::of_open(CONSOLE, fault).status(),
     };
     let ending = run(alloc, memo, names, shelf);
-    let told = ending.tell(&mut console);
-    shelf.give_out(CONSOLE, console);
-    ending.and_written(CONSOLE, told).status()
+    tell_ending(ending, console, shelf)
 }
 
 /// Reads the base, and runs over it.

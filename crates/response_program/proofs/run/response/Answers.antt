@@ -1,28 +1,44 @@
-use Rattle.std.proofs.Common.{◌≤◌, length, map, string_bytes, sym, subst}
+use Rattle.std.proofs.Common.{◌≡◌, ◌≤◌, length, map, string_bytes, sym, ◌∙◌, ap, subst}
+use Rattle.std.specs.Prelude.{Some}
 use Rattle.program_words.specs.declared.rounds.TheConstants.{PAIR_LIMIT}
 use Rattle.response_program.specs.Names.{Names, Differ, names_of}
 use Rattle.response_program.specs.Views.{view}
-use Rattle.response_program.proofs.Asked.{asked_told}
-use Rattle.response_program.proofs.NamesApart.{told_differ}
+use Rattle.response_program.proofs.Asking.{asked_told, asked_make}
+use Rattle.response_program.proofs.NamesApart.{told_differ, make_apart}
+use Rattle.response_program.proofs.Makings.{nothing_made}
 use Rattle.response_program.proofs.Memory.{no_memory}
 use Rattle.response_program.proofs.run.response.Goals as goal
 
 pub run_told-requires-clause-memo : goal.run_told-requires-clause-memo
-run_told-requires-clause-memo g c = (asked_told (map string_bytes c.args.words.now) c.in-Ok.program c.in-Some.run' c.in-Ok.ensures.ok c.in-Some.ensures).memo_some
+run_told-requires-clause-memo g c = (asked_told (map string_bytes c.args.words.now) c.in-Ok.program c.in-Some-Run.run' c.in-Ok.ensures.ok (sym (ap Some c.in-Some-Run.field-0-is) ∙ c.in-Some-Run.ensures)).memo_some
 
 pub run_told-requires-clause-most : goal.run_told-requires-clause-most
-run_told-requires-clause-most g c = (asked_told (map string_bytes c.args.words.now) c.in-Ok.program c.in-Some.run' c.in-Ok.ensures.ok c.in-Some.ensures).memo_most
+run_told-requires-clause-most g c = (asked_told (map string_bytes c.args.words.now) c.in-Ok.program c.in-Some-Run.run' c.in-Ok.ensures.ok (sym (ap Some c.in-Some-Run.field-0-is) ∙ c.in-Some-Run.ensures)).memo_most
 
 pub run_told-requires-clause-pairs : goal.run_told-requires-clause-pairs
 run_told-requires-clause-pairs g c =
-    subst (λ (names : Names). length names.pairs ≤ PAIR_LIMIT) (sym c.of.ensures)
-    (asked_told (map string_bytes c.args.words.now) c.in-Ok.program c.in-Some.run' c.in-Ok.ensures.ok c.in-Some.ensures).few
+    subst (λ (names : Names). length names.pairs ≤ PAIR_LIMIT) (sym c.of-in-Some-Run.ensures)
+    (asked_told (map string_bytes c.args.words.now) c.in-Ok.program c.in-Some-Run.run' c.in-Ok.ensures.ok (sym (ap Some c.in-Some-Run.field-0-is) ∙ c.in-Some-Run.ensures)).few
 
 pub run_told-requires-clause-differ : goal.run_told-requires-clause-differ
 run_told-requires-clause-differ g c =
-    subst Differ (sym c.of.ensures)
-    (told_differ c.in-Some.run' (asked_told (map string_bytes c.args.words.now) c.in-Ok.program c.in-Some.run' c.in-Ok.ensures.ok c.in-Some.ensures))
+    subst Differ (sym c.of-in-Some-Run.ensures)
+    (told_differ c.in-Some-Run.run' (asked_told (map string_bytes c.args.words.now) c.in-Ok.program c.in-Some-Run.run' c.in-Ok.ensures.ok (sym (ap Some c.in-Some-Run.field-0-is) ∙ c.in-Some-Run.ensures)))
+
+pub make_told-requires-clause-some : goal.make_told-requires-clause-some
+make_told-requires-clause-some g c = (asked_make (map string_bytes c.args.words.now) c.in-Ok.program c.in-Some-Make.making c.in-Ok.ensures.ok (sym (ap Some c.in-Some-Make.field-0-is) ∙ c.in-Some-Make.ensures)).some
+
+pub make_told-requires-clause-few : goal.make_told-requires-clause-few
+make_told-requires-clause-few g c = (asked_make (map string_bytes c.args.words.now) c.in-Ok.program c.in-Some-Make.making c.in-Ok.ensures.ok (sym (ap Some c.in-Some-Make.field-0-is) ∙ c.in-Some-Make.ensures)).most
+
+pub make_told-requires-clause-apart : goal.make_told-requires-clause-apart
+make_told-requires-clause-apart g c =
+    make_apart c.in-Some-Make.making.base c.in-Some-Make.making.input (asked_make (map string_bytes c.args.words.now) c.in-Ok.program c.in-Some-Make.making c.in-Ok.ensures.ok (sym (ap Some c.in-Some-Make.field-0-is) ∙ c.in-Some-Make.ensures)).files
 
 -- there was no memory for the words
 pub returns-in-Err-Memory-clause-run : goal.returns-in-Err-Memory-clause-run
 returns-in-Err-Memory-clause-run g c = λ run is. no_memory (view g.H.Shelf.held g.H.Shelf.open_faults g.H.Shelf.read_faults g.H.Shelf.write_faults c.args.shelf.now) (names_of run)
+
+pub returns-in-Err-Memory-clause-make : goal.returns-in-Err-Memory-clause-make
+returns-in-Err-Memory-clause-make g c =
+    λ parts start base input is. nothing_made (view g.H.Shelf.held g.H.Shelf.open_faults g.H.Shelf.read_faults g.H.Shelf.write_faults c.args.shelf.now) parts start base input

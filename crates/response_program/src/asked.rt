@@ -1,0 +1,47 @@
+//! What a command line asks for, of what is served.
+ghost use Rattle.std.specs.Prelude.{◌≡◌};
+ghost use Rattle.response_program.specs.Words.{served_by};
+
+use crate::making::Making;
+use program_words::{Program, RunWords, Still};
+
+/// What is served.
+#[derive(Drop)]
+pub enum Asked<'a> {
+    /// Sessions over a base, one after the other.
+    Run(RunWords<'a>),
+    /// A base and an input.
+    Make(Making<'a>),
+}
+
+impl<'a> Asked<'a> {
+    /// What a program is that is served: nothing else is so far.
+    pub fn of(program: Program<'a>) -> Option<Asked<'a>>
+        ensures { result ≡ served_by program.entry }
+    {
+        match program {
+            Program::Run(run) => {
+                if run.rounds.have_one_pair_each() {
+                    Some(Asked::Run(run))
+                } else {
+                    None
+                }
+            }
+            Program::Still(still) => match still {
+                Still::Make {
+                    parts,
+                    start,
+                    base,
+                    input,
+                } => Some(Asked::Make(Making {
+                    parts,
+                    start,
+                    base,
+                    input,
+                })),
+                _other => None,
+            },
+            Program::Keep(_keep) => None,
+        }
+    }
+}

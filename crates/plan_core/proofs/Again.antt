@@ -94,7 +94,7 @@ refused_again base most entries at core entry point refusal h long found holds f
     let here : point ≡ at = point_is ∙ ap length history_is ∙ long in
     let legal : IsLegal base (take at entries) = subst (λ es. IsLegal base es) history_is (subst (λ c. IsLegal c (history core)) h.base_is holds.legal) in
     let refusal_is : refused base (take at entries) entry.user entry.change ≡ Some refusal =
-        (λ i. refused (sym h.base_is i) (sym history_is i) entry.user entry.change) ∙ first in
+    (λ i. refused (sym h.base_is i) (sym history_is i) entry.user entry.change) ∙ first in
     subst (λ n. IsFirstRefused base entries n refusal) (sym here) (record { before = legal; entry = entry; at = found; first = refusal_is })
 
 pub sound_at : (entries : List Entry) (at : ℕ) (d : Entry) → at < length entries → list_all is_sound_entry entries ≡ true → is_sound_entry (get_or entries at d) ≡ true

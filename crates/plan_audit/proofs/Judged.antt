@@ -57,6 +57,7 @@ answer_prints base entries user (commands.Level scenario part) = query_prints (l
 answer_prints base entries user (commands.Plan scenario part) = query_prints (length entries) _ _
 answer_prints base entries user (commands.Peg scenario part day) = query_prints (length entries) _ _
 answer_prints base entries user (commands.Atp scenario part) = query_prints (length entries) _ _
+answer_prints base entries user (commands.Cost scenario part) = query_prints (length entries) _ _
 answer_prints base entries user (commands.Select scenario text) =
     let world = world_after base entries in
     select_prints world (length entries) user scenario (contents_in world scenario) (result_ok (query_of text))

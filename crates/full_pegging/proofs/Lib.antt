@@ -1,0 +1,4 @@
+mod Everywhere
+mod Stands
+mod Sums
+mod ByDays

@@ -2,3 +2,6 @@ mod Everywhere
 mod Stands
 mod Sums
 mod ByDays
+mod Spreading
+mod InARow
+mod MeetingRows

@@ -5,3 +5,4 @@ mod ByDays
 mod Spreading
 mod InARow
 mod MeetingRows
+mod Pegged

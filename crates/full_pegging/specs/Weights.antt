@@ -1,12 +1,13 @@
 -- Units in a row, and what they weigh: the sum of a measure of units, such as 1 for a unit that ends at one demand, and 0 for others.
-use Rattle.std.specs.Prelude.{◌≡◌, ℕ, suc, ◌+◌, ◌*◌, ◌/◌, List, Option, Some, sum, sum_by, take, slice_index}
+use Rattle.std.specs.Prelude.{◌≡◌, ℕ, suc, ◌+◌, ◌*◌, ◌/◌, ◌<◌, List, ◌∷◌, ◌++◌, Option, Some, sum, sum_by, take, slice_index}
 use Rattle.std.specs.List.{range_with_len}
 use Rattle.plan_schema.specs.declared.name.Name.{Name}
 use Rattle.plan_schema.specs.declared.key.Key.TheVariants as keys
 use Rattle.plan_schema.specs.Contents.{Contents, record_at}
+use Rattle.planning_rules.specs.Days.{days_of}
 use Rattle.planning_rules.specs.Netting.{Lists}
-use Rattle.planning_rules.specs.Plan.{Known, Planned, released, stock_in}
-use Rattle.planning_rules.specs.Pegs.{FromParent}
+use Rattle.planning_rules.specs.Plan.{Known, Planned, gross_on, released, stock_in}
+use Rattle.planning_rules.specs.Pegs.{Peg, FromParent, peg_qty, pegs_from}
 use Rattle.planning_rules.specs.Trace.{End, end_at, per_in, peg_ends, demand_ends, day_ends}
 use Rattle.full_pegging.specs.declared.units.Units.{Units}
 use Rattle.full_pegging.specs.declared.units.ParentUnits.{ParentUnits}
@@ -45,3 +46,11 @@ abbrev pub PegIsInARow : Type 0
 PegIsInARow = (measure : End → ℕ) (ends : Name → List End) (plans : Name → Option Known) (c : Contents) (n : Name) (t : ℕ) (parent : Name) (qty : ℕ)
     → sum_by measure (peg_ends ends plans c n t (FromParent parent qty))
     ≡ asked_weight (λ unit. measure (end_at parent (ends parent) unit)) (per_in (record_at c (keys.Bill parent n))) (sum (take t (released (plans parent)))) (peg_units qty)
+
+-- the units of the demand stand peg by peg: before those of a peg of day t come the gross requirements of the days before, and what
+-- the pegs before it on the day ask for
+abbrev pub PegsStandInARow : Type 0
+PegsStandInARow = (ends : Name → List End) (plans : Name → Option Known) (c : Contents) (n : Name) (t : ℕ) (before behind : List Peg) (peg : Peg) (unit : ℕ)
+    → t < days_of c → pegs_from plans c n t ≡ before ++ peg ∷ behind → unit < peg_qty peg
+    → end_at n (demand_ends ends plans c n) ((sum_by (gross_on plans c n) (range_with_len 0 t) + sum_by peg_qty before) + unit)
+    ≡ end_at n (peg_ends ends plans c n t peg) unit

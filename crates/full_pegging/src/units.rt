@@ -95,6 +95,10 @@ pub fn split_at(units: &Units, number: u64) -> (Units, Units)
     requires { units.now.first + units.now.many < 2 ^ 64 }
     ensures below { result.0.many ≡ min units.now.many (number - units.now.first) }
     ensures first { result.0.first ≡ units.now.first }
+    ensures behind { result.1.first ≡ units.now.first + result.0.many }
+    ensures rest { result.0.many + result.1.many ≡ units.now.many }
+    ensures times { result.0.times ≡ units.now.times }
+    ensures same { result.1.times ≡ units.now.times }
     ensures weight { (measure : ℕ → ℕ) → weight measure result.0 + weight measure result.1
         ≡ weight measure units.now }
 {

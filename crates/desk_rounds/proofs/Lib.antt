@@ -4,3 +4,4 @@ pub mod Places
 pub mod Fours
 pub mod Joins
 pub mod Meets
+pub mod OneRound

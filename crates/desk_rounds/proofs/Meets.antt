@@ -8,7 +8,7 @@ use Rattle.turn_table.specs.Story.{Begins}
 use Rattle.turn_table.specs.Passes.{TurnId, IsFree, HasOwn, met_pass}
 use Rattle.sessions.proofs.Seen.{begins_on}
 use Rattle.plan_office.specs.Turns.{Known}
-use Rattle.desk_rounds.specs.PassLists.{IsMet, SawMore, AreMet}
+use Rattle.desk_rounds.specs.PassLists.{IsMet, SawMore, AreMet, HasSeen}
 
 pub saw_more : (turn : TurnId) (p m n x : Known) → SawMore turn p m → n ≡ met_pass m x → Begins m.seen n.seen → SawMore turn p n
 saw_more turn p m n x h is grows =
@@ -17,6 +17,14 @@ saw_more turn p m n x h is grows =
       free = subst (IsFree turn) (sym is) h.free;
       grows = begins_on p.seen m.seen n.seen h.grows grows;
     }
+
+-- all of those were seen, and so was the next
+pub seen_more : (m n : Known) (others : List Known) (i : ℕ) → HasSeen m others i → Begins m.seen n.seen → ((d : Known) → Begins (get_or others i d).seen n.seen) → HasSeen n others (i + 1)
+seen_more m n others i h grows here k d less = by_place (cases_Bool (k == i))
+  where
+    by_place : ((k == i) ≡ true) ⊎ ((k == i) ≡ false) → Begins (get_or others k d).seen n.seen
+    by_place (inl is_here) = let same : k ≡ i = grind (arith, nat_tests) in subst (λ j. Begins (get_or others j d).seen n.seen) (sym same) (here d)
+    by_place (inr apart) = let below : k < i = grind (arith, nat_tests) in begins_on (get_or others k d).seen m.seen n.seen (h k d below) grows
 
 module _ (turn : TurnId) (p m x y : Known) (before after : List Known) (i : ℕ) (saw : SawMore turn p m) (h : AreMet p before after i) (within : i < length after) (here : (d : Known) → get_or after i d ≡ x)
     (is : y ≡ met_pass x m) (ahead : Begins m.seen y.seen) (grows : Begins x.seen y.seen) (own : HasOwn y) where

@@ -46,3 +46,7 @@ pub record AreMet (main : Known) (before after : List Known) (count : ℕ) : Typ
   pub long : length after ≡ length before
   pub met : (k : ℕ) (d : Known) → k < count → IsMet main (get_or before k d) (get_or after k d)
   pub others : (k : ℕ) (d : Known) → count ≤ k → get_or after k d ≡ get_or before k d
+
+-- a pass has seen all that the first so many of some passes had
+abbrev pub HasSeen : Known → List Known → ℕ → Type 0
+HasSeen p others count = (k : ℕ) (d : Known) → k < count → Begins (get_or others k d).seen p.seen

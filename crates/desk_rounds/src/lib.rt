@@ -4,7 +4,9 @@
 mod laws;
 mod passes;
 mod round;
+mod rounds;
 
 pub use laws::{desks_are_places, rounds_are_legal};
 pub use passes::{join_all, meet_all, split_all};
 pub use round::serve_desks;
+pub use rounds::run_round;

@@ -2,7 +2,7 @@
 ghost use Rattle.std.specs.Prelude.{◌≡◌, ◌+◌, ◌≤◌, ◌<◌, ◌^◌, [], length, reverse, IfOk};
 ghost use Rattle.std.specs.List.{AllByRecursion};
 ghost use Rattle.turn_table.specs.Passes.{IsFree, HasOwn};
-ghost use Rattle.desk_rounds.specs.PassLists.{after_splits, split_passes, AreJoined, AreMet, SawMore};
+ghost use Rattle.desk_rounds.specs.PassLists.{after_splits, split_passes, AreJoined, AreMet, SawMore, HasSeen};
 
 use plan_book::PlanBook;
 use plan_office::{Office, Pass};
@@ -47,6 +47,7 @@ pub fn meet_all<B: PlanBook>(office: &Office<B>, pass: &mut Pass<B>, others: &mu
     requires others { AllByRecursion (IsFree office.now) others.old }
     ensures main { SawMore office.now pass.old pass.new }
     ensures others { AreMet pass.old others.old others.new (length others.old) }
+    ensures seen { HasSeen pass.new others.old (length others.old) }
 {
     'meets: for other in others.iter_mut() {
         office.meet(pass, other);

@@ -70,7 +70,8 @@ planned_is_part c n h =
 
 -- each peg is of a row -----------------------------------------------------------------------------------------------------
 
-same_from : (a b : Name) → name_eq a b ≡ true → a ≡ b
+-- names that compare alike are one
+pub same_from : (a b : Name) → name_eq a b ≡ true → a ≡ b
 same_from a b h = tells_apart exact_bytes a b h
 
 demand_has : (c : Contents) (n : Name) (row : Key × Record) (order : Order) → HasKey c row.0 → demand_in n row ≡ Some order → HasKey c (keys.Demand n order.name)

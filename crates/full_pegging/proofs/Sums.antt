@@ -2,8 +2,6 @@
 use Rattle.std.proofs.Common.{◌≡◌, ℕ, ◌+◌, ◌⊎◌, inl, inr, List, [], ◌∷◌, ◌++◌, map, length, refl, sym, ◌∙◌, ap, subst, arith, Bool, true, false, cond, ◌&&◌}
 use Rattle.std.proofs.lemmas.Bool.Decides.{nat_tests}
 use Rattle.std.proofs.lemmas.List.Sums.{sum_by-cons, sum_by-append}
-use Rattle.std.proofs.lemmas.Map.Views.{tells_apart}
-use Rattle.std.proofs.lemmas.Map.Lookups.{exact_bytes}
 use Rattle.std.specs.Prelude.{Option, Some, None, nat_lt, sum_by, count_by, filter}
 use Rattle.std.specs.List.{cons_option, filter_map}
 use Rattle.std.specs.Ordering.{is_lt}
@@ -20,7 +18,7 @@ use Rattle.planning_rules.proofs.LevelLaws.{same_name}
 use Rattle.planning_rules.proofs.PlanLaws.{both_true}
 use Rattle.planning_rules.specs.Trace.{End, AtDemand, Surplus, same_end, demand_end, surplus_end, shares}
 use Rattle.full_pegging.specs.Laws.{total_share}
-use Rattle.full_pegging.proofs.Stands.{HasKey, Stands, AllStand}
+use Rattle.full_pegging.proofs.Stands.{HasKey, Stands, AllStand, same_from}
 
 -- 1 for what passes a test
 abbrev one_if : Bool → ℕ
@@ -72,9 +70,6 @@ module _ (k : Key) (f : (Key × Record) → ℕ) (one : (row : Key × Record) �
       ]
 
 -- the rows that are an end ---------------------------------------------------------------------------------------------------
-
-same_from : (a b : Name) → name_eq a b ≡ true → a ≡ b
-same_from a b h = tells_apart exact_bytes a b h
 
 demand_one : (part order : Name) (row : Key × Record) → row.0 ≡ keys.Demand part order → hit (AtDemand part order) (demand_end row) ≡ 1
 demand_one part order row e =

@@ -1,7 +1,9 @@
 //! Cutting a stream into lines.
-ghost use Rattle.std.specs.Prelude.{◌≡◌, ◌==◌, ◌<◌, ◌≤◌, ◌↔◌, IsTrue, true, false, Some, [], length, drop, position, if◌then◌else◌, None, IfSome, Option, List, ℕ, ◌++◌};
+ghost use Rattle.std.specs.Prelude.{◌≡◌, ◌==◌, ◌<◌, ◌≤◌, ◌↔◌, IsTrue, true, false, Some, [], length, drop};
+ghost use Rattle.std.specs.Prelude.{position, if◌then◌else◌, None, IfSome, Option, List, ℕ, ◌++◌};
 ghost use Rattle.std.specs.Bool.{OnTrue, OnFalse};
-ghost use Rattle.byte_lines.specs.Lines.{share_of_line, grown, line_of, without_return, text_of_line, lines_of, lines_from, lines_after, lines_joined, line_before, no_bytes};
+ghost use Rattle.byte_lines.specs.Lines.{share_of_line, grown, line_of, without_return, text_of_line, lines_of};
+ghost use Rattle.byte_lines.specs.Lines.{lines_from, lines_after, lines_joined, line_before, no_bytes};
 ghost use Rattle.byte_lines.specs.Cuts.{shown};
 
 use arrayvec::ArrayVec;

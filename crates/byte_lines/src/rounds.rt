@@ -1,5 +1,6 @@
 //! Desks at which sessions are served, in rounds.
-ghost use Rattle.std.specs.Prelude.{◌≡◌, ◌<◌, ◌↔◌, ◌∷◌, ◌++◌, [], true, Some, length, min, OnOk, OnErr, IfErr, IfNone, IsNone};
+ghost use Rattle.std.specs.Prelude.{◌≡◌, ◌<◌, ◌↔◌, ◌∷◌, ◌++◌, [], true, Some, length, min, OnOk, OnErr, IfErr};
+ghost use Rattle.std.specs.Prelude.{IfNone, IsNone};
 ghost use Rattle.std.specs.List.{slice_get};
 ghost use Rattle.std.specs.Option.{option_copied_mut, option_to_list};
 ghost use Rattle.std.specs.Borrow.{sem};

@@ -68,7 +68,8 @@ impl Slot {
 }
 
 impl Rows {
-    ghost use Rattle.byte_lines.specs.Rows.{empty_slot, slot_at, held_in, open_faults_in, read_faults_in, write_faults_in};
+    ghost use Rattle.byte_lines.specs.Rows.{empty_slot, slot_at, held_in, open_faults_in, read_faults_in};
+    ghost use Rattle.byte_lines.specs.Rows.{write_faults_in};
 
     /// The slot of a name, where it has a row.
     pub(crate) fn find(&self, name: &str) -> Option<&Slot>

@@ -1,5 +1,6 @@
 //! What can be told from words: lines from their words, and replies, refusals and keys from their texts.
-ghost use Rattle.command_words.specs.Laws.{WordsAreReadAgain, CommandIsReadAlone, CommandIsReadAgain, ReplyIsInForm, RefusalsDiffer, KeysDiffer};
+ghost use Rattle.command_words.specs.Laws.{WordsAreReadAgain, CommandIsReadAlone, CommandIsReadAgain};
+ghost use Rattle.command_words.specs.Laws.{ReplyIsInForm, RefusalsDiffer, KeysDiffer};
 
 /// The words that a line was made of are its words.
 pub fn words_are_read_again()

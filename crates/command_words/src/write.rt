@@ -5,7 +5,8 @@ ghost use Rattle.plan_schema.specs.Outside.{Wrote};
 ghost use Rattle.row_text.specs.Spelling.{spaced, words_text};
 ghost use Rattle.command_words.specs.Pages.{Gathered};
 ghost use Rattle.command_words.specs.Replies as spec;
-ghost use Rattle.command_words.specs.Replies.{ended, room_word, rule_word, query_rule_word, refusal_words, bad_words, head_words, point_word, reply_text};
+ghost use Rattle.command_words.specs.Replies.{ended, room_word, rule_word, query_rule_word, refusal_words};
+ghost use Rattle.command_words.specs.Replies.{bad_words, head_words, point_word, reply_text};
 
 use crate::page::{Page, flush, put, put_lines};
 use crate::reply::{Bad, Reply};

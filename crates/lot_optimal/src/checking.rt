@@ -2,7 +2,8 @@
 ghost use Rattle.std.specs.Prelude.{IsTrue, sum_by, ◌*◌, ◌≡◌, ◌≤◌, length, All, map};
 ghost use Rattle.planning_rules.specs.Shortages.{shortage, InReach};
 ghost use Rattle.planning_rules.specs.BestLots.{needs};
-ghost use Rattle.lot_optimal.specs.Costs.{are_rows, are_amounts, begins, first_potential, is_low, are_low, is_proof, IsLeastCost, rows_cost};
+ghost use Rattle.lot_optimal.specs.Costs.{are_rows, are_amounts, begins, first_potential, is_low, are_low};
+ghost use Rattle.lot_optimal.specs.Costs.{is_proof, IsLeastCost, rows_cost};
 
 use crate::needs::fill_needs;
 use crate::rows::{CostRow, Costs};

@@ -1,5 +1,5 @@
 -- Bills as graphs of places.
-use Rattle.std.proofs.Common.{◌≡◌, ℕ, zero, suc, ◌+◌, ◌<◌, inl, inr, List, [], ◌∷◌, ◌++◌, length, map, set, refl, sym, ◌∙◌, ap, subst, arith, Bool, true, false, cond, ◌==◌, length-set, length-append, take, get_or}
+use Rattle.std.proofs.Common.{◌≡◌, ℕ, ◌+◌, ◌<◌, inl, inr, List, [], ◌∷◌, ◌++◌, length, map, set, refl, sym, ◌∙◌, ap, subst, arith, Bool, true, false, cond, ◌==◌, length-set, length-append}
 use Rattle.std.proofs.lemmas.List.{map-append, map-set}
 use Rattle.std.proofs.lemmas.Bool.Decides.{nat_tests}
 use Rattle.std.proofs.lemmas.List.Elements.{filter_map-append}
@@ -140,11 +140,3 @@ module _ {Z : Type 0} where
 
   pub shown_set : (vs : List (Vec ℕ Z)) (i : ℕ) (v : Vec ℕ Z) → shown (set vs i v) ≡ set (shown vs) i v.items
   shown_set vs i v = map-set (λ (v : Vec ℕ Z). v.items) vs i v
-
-pub take_next : {A : Type 0} (xs : List A) (i : ℕ) (d : A) → i < length xs → take (i + 1) xs ≡ take i xs ++ get_or xs i d ∷ []
-take_next {A} xs i d l = let one : i + 1 ≡ suc i = omega arith in ap (λ k. take k xs) one ∙ next xs i l
-  where
-    next : (xs : List A) (i : ℕ) → i < length xs → take (suc i) xs ≡ take i xs ++ get_or xs i d ∷ []
-    next [] i l = absurd (omega arith)
-    next (x ∷ xs) zero l = refl
-    next (x ∷ xs) (suc i) l = let short : i < length xs = omega arith in ap (λ ys. x ∷ ys) (next xs i short)

@@ -1,5 +1,6 @@
 //! Low-level codes.
-ghost use Rattle.std.specs.Prelude.{◌≡◌, ◌<◌, ℕ, List, true, length, None, Some, IfOk, IfErr, slice_get, MatchOption, Contains, map};
+ghost use Rattle.std.specs.Prelude.{◌≡◌, ◌<◌, ℕ, List, true, length, None, Some, IfOk, IfErr, slice_get};
+ghost use Rattle.std.specs.Prelude.{MatchOption, Contains, map};
 ghost use Rattle.plan_schema.specs.declared.name.Name.{Name};
 ghost use Rattle.planning_rules.specs.Refused.{least_name, is_cyclic};
 ghost use Rattle.low_level_codes.specs.Graphs.{level_at, shown, AreWithin};

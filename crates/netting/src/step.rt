@@ -1,7 +1,9 @@
 //! The step of one part.
-ghost use Rattle.std.specs.Prelude.{◌≡◌, ℕ, ◌+◌, ◌-◌, ◌<◌, ◌≤◌, [], List, Bool, true, false, length, map, sum, reverse, All, IsTrue, IfOk, IfErr, slice_index};
+ghost use Rattle.std.specs.Prelude.{◌≡◌, ℕ, ◌+◌, ◌-◌, ◌<◌, ◌≤◌, [], List, Bool, true, false, length, map, sum};
+ghost use Rattle.std.specs.Prelude.{reverse, All, IsTrue, IfOk, IfErr, slice_index};
 ghost use Rattle.planning_rules.specs.Days.{back, working_before};
-ghost use Rattle.planning_rules.specs.Netting.{IsOrder, Netted, limit, exceeds, balances, releases, late_sum, is_too_large, outcome_from};
+ghost use Rattle.planning_rules.specs.Netting.{IsOrder, Netted, limit, exceeds, balances, releases, late_sum};
+ghost use Rattle.planning_rules.specs.Netting.{is_too_large, outcome_from};
 ghost use Rattle.plan_schema.specs.Sound.{is_sound_lot};
 ghost use Rattle.planning_rules.specs.Shortages.{shortage, InReach};
 ghost use Rattle.planning_rules.specs.Amounts.{is_best};

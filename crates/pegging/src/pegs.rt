@@ -1,5 +1,6 @@
 //! The pegs of a part's cell.
-ghost use Rattle.std.specs.Prelude.{◌≡◌, ◌+◌, ◌<◌, ◌≤◌, ℕ, [], ◌∷◌, ◌++◌, true, length, map, IfOk, OnOk, option_to_list};
+ghost use Rattle.std.specs.Prelude.{◌≡◌, ◌+◌, ◌<◌, ◌≤◌, ℕ, [], ◌∷◌, ◌++◌, true, length, map, IfOk, OnOk};
+ghost use Rattle.std.specs.Prelude.{option_to_list};
 ghost use Rattle.plan_schema.specs.declared.limits.TheConstants.{RECORD_LIMIT};
 ghost use Rattle.plan_schema.specs.Sound.{are_sound_rows};
 ghost use Rattle.planning_rules.specs.Netting.{limit};

@@ -1,5 +1,6 @@
 //! Answers about what the orders of a part with least-cost lots cost, where the plans are known.
-ghost use Rattle.std.specs.Prelude.{◌≡◌, ◌+◌, ◌-◌, ◌≤◌, ◌++◌, ◌<◌, true, Some, ◌∷◌, [], length, map, decimal, All, IfOk, IfSome};
+ghost use Rattle.std.specs.Prelude.{◌≡◌, ◌+◌, ◌-◌, ◌≤◌, ◌++◌, ◌<◌, true, Some, ◌∷◌, [], length, map, decimal, All};
+ghost use Rattle.std.specs.Prelude.{IfOk, IfSome};
 ghost use Rattle.arrayvec.specs.ArrayVec.{array_vec_len};
 ghost use Rattle.plan_schema.specs.declared.key.Key.TheVariants as keys;
 ghost use Rattle.plan_schema.specs.declared.change.CellName.TheVariants as names;

@@ -1,5 +1,6 @@
 //! What holds of questions: each law is the contract of a function that does nothing.
-ghost use Rattle.plan_answer.specs.Laws.{AskedIsAnswered, AsksWhereItWants, BarredIsAnswered, CollectedIsEnough, QuestionIsAnswered, RefusedIsAnswered};
+ghost use Rattle.plan_answer.specs.Laws.{AskedIsAnswered, AsksWhereItWants, BarredIsAnswered, CollectedIsEnough};
+ghost use Rattle.plan_answer.specs.Laws.{QuestionIsAnswered, RefusedIsAnswered};
 
 /// A command is a question where it wants something of a scenario; and what a question is answered over the contents of its scenario is
 /// what the command is answered in a session.

@@ -1,5 +1,6 @@
 //! Answers about pegs, where the plans are known.
-ghost use Rattle.std.specs.Prelude.{◌≡◌, ◌+◌, ◌-◌, ◌≤◌, ◌<◌, ◌++◌, ◌||◌, nat_lt, nat_le, true, false, Some, None, ◌∷◌, [], IfOk, OnOk, MatchOption, map};
+ghost use Rattle.std.specs.Prelude.{◌≡◌, ◌+◌, ◌-◌, ◌≤◌, ◌<◌, ◌++◌, ◌||◌, nat_lt, nat_le, true, false, Some, None};
+ghost use Rattle.std.specs.Prelude.{◌∷◌, [], IfOk, OnOk, MatchOption, map};
 ghost use Rattle.planning_rules.specs.Days.{start_of, days_of};
 ghost use Rattle.planning_rules.specs.Pegs.{pegs, no_day as no_day_of};
 ghost use Rattle.session_rules.specs.Answers.{peg_line, query_reply};

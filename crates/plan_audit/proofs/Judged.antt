@@ -1,7 +1,6 @@
 -- A reply in which nothing is broken is a legal one.
 use Rattle.std.proofs.Common.{◌≡◌, ℕ, ◌-◌, ◌≤◌, Bool, true, false, not, List, [], Option, Some, None, length, take, refl, sym, ap, ◌∙◌, arith, ltb-true, leb-true}
 use Rattle.std.specs.Prelude.{IfSome, slice_get, nat_lt, nat_le, unwrap_or}
-use Rattle.std.specs.Result.{result_ok}
 use Rattle.std.specs.Cmp.Lexicographic.{bytes_decides}
 use Rattle.std.proofs.lemmas.Bool.{and_parts}
 use Rattle.std.proofs.lemmas.List.{length-take-le}
@@ -10,58 +9,19 @@ use Rattle.plan_schema.specs.declared.refusal.Refusal.{Refusal}
 use Rattle.plan_schema.specs.declared.change.Change.{Change}
 use Rattle.plan_schema.specs.declared.change.Entry.{Entry}
 use Rattle.plan_schema.specs.Contents.{Contents}
-use Rattle.query_language.specs.Trees.{QueryTree}
-use Rattle.query_language.specs.Growing.{query_of}
-use Rattle.scenario_rules.specs.World.{World, contents_in}
-use Rattle.scenario_rules.specs.Steps.{world_after}
 use Rattle.scenario_rules.specs.Refused.{refused}
 use Rattle.command_words.specs.declared.command.Command.{Command}
-use Rattle.command_words.specs.declared.command.Command.TheVariants as commands
 use Rattle.command_words.specs.declared.reply.Reply.{Reply}
 use Rattle.command_words.specs.declared.reply.Reply.TheVariants as replies
 use Rattle.command_words.specs.Forms.{Form, Done, Listed, Refused, Faulty, NoMemory}
 use Rattle.command_words.specs.Replies.{reply_text}
 use Rattle.session_rules.specs.Requests.{Wish, Makes, Asks, IsBad}
-use Rattle.session_rules.specs.Answers.{answer, change_reply, query_reply, select_answer}
+use Rattle.session_rules.proofs.Printing.{Prints, answer_prints}
+use Rattle.session_rules.specs.Answers.{answer, change_reply}
 use Rattle.session_rules.specs.Sessions.{IsReplyTo, IsAnswer, point_after, needs_no_memory}
 use Rattle.session_rules.specs.Runs.{accepted_point}
 use Rattle.plan_audit.specs.Judging.{point_in, last_after, is_text_of, is_in_order, is_entry, has_entry, is_right, point_accepted}
 use Rattle.plan_audit.proofs.SameEntries.{one_entry}
-
--- a reply that prints this point
-abbrev Prints : ℕ → Reply → Type 0
-Prints n (replies.Ok point) = point ≡ n
-Prints n (replies.Rows point lines) = point ≡ n
-Prints n (replies.No point refusal) = point ≡ n
-Prints n (replies.Bad bad) = ⊥
-Prints n replies.Mem = ⊥
-
-query_prints : (n : ℕ) (refusal : Option Refusal) (lines : List (List ℕ)) → Prints n (query_reply n refusal lines)
-query_prints n None lines = refl
-query_prints n (Some refusal) lines = refl
-
-select_prints : (world : World) (n : ℕ) (user scenario : Name) (c : Contents) (query : Option QueryTree) → IfSome (select_answer world n user scenario c query) (Prints n)
-select_prints world n user scenario c None = tt
-select_prints world n user scenario c (Some query) = query_prints n _ _
-
--- each answer prints the number of entries
-answer_prints : (base : Contents) (entries : List Entry) (user : Name) (command : Command) → IfSome (answer base entries user command) (Prints (length entries))
-unfolding answer
-answer_prints base entries user (commands.Hello name) = refl
-answer_prints base entries user commands.Point = refl
-answer_prints base entries user commands.Reclaim = refl
-answer_prints base entries user commands.Quit = refl
-answer_prints base entries user commands.Tree = refl
-answer_prints base entries user (commands.Show scenario cell) = query_prints (length entries) _ _
-answer_prints base entries user (commands.Level scenario part) = query_prints (length entries) _ _
-answer_prints base entries user (commands.Plan scenario part) = query_prints (length entries) _ _
-answer_prints base entries user (commands.Peg scenario part day) = query_prints (length entries) _ _
-answer_prints base entries user (commands.Atp scenario part) = query_prints (length entries) _ _
-answer_prints base entries user (commands.Cost scenario part) = query_prints (length entries) _ _
-answer_prints base entries user (commands.Select scenario text) =
-    let world = world_after base entries in
-    select_prints world (length entries) user scenario (contents_in world scenario) (result_ok (query_of text))
-answer_prints base entries user _ = tt
 
 text_is : (text : List ℕ) (reply : Reply) → is_text_of text (Some reply) ≡ true → text ≡ reply_text reply
 text_is text reply h = (bytes_decides text (reply_text reply)).0 h

@@ -1,5 +1,6 @@
 //! What holds of verdicts: each law is the contract of a function that does nothing.
-ghost use Rattle.plan_audit.specs.Laws.{UnrefusedIsAccepted, RefusedIsFirst, SeenSessionIsLegal, SeenRoundsAreLegal, JudgedLegalIsLegal, LegalIsJudgedLegal};
+ghost use Rattle.plan_audit.specs.Laws.{UnrefusedIsAccepted, RefusedIsFirst, SeenSessionIsLegal};
+ghost use Rattle.plan_audit.specs.Laws.{SeenRoundsAreLegal, JudgedLegalIsLegal, LegalIsJudgedLegal};
 
 /// A history of which no entry is told to be refused has none that is.
 pub fn unrefused_is_accepted()

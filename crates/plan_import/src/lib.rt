@@ -6,7 +6,8 @@ ghost use Rattle.csv.specs.Records.{fields_of};
 ghost use Rattle.plan_schema.specs.Base.{is_base, part_count};
 ghost use Rattle.plan_schema.specs.Sound.{is_sound_row, are_sound_rows};
 ghost use Rattle.row_text.specs.Texts.{texts};
-ghost use Rattle.plan_import.specs.BaseFile.{base_records, with_new, with_numbered, with_records, within_limits, base_of_records};
+ghost use Rattle.plan_import.specs.BaseFile.{base_records, with_new, with_numbered, with_records, within_limits};
+ghost use Rattle.plan_import.specs.BaseFile.{base_of_records};
 ghost use Rattle.plan_import.specs.Imported.{Imported};
 ghost use Rattle.plan_import.specs.Told.{Tells, TellsFault};
 

@@ -11,7 +11,8 @@ ghost use Rattle.plan_schema.specs.Contents.{record_at};
 ghost use Rattle.plan_schema.specs.declared.key.Key.TheVariants as keys;
 ghost use Rattle.plan_jobs.specs.Jobs.{IsJob};
 ghost use Rattle.plan_jobs.specs.Names.{has_name, are_ordered};
-ghost use Rattle.plan_jobs.specs.Collects.{AreWholeCells, CollectedFrom, cell_by, cells_by, records_by, is_needed, IsVisited};
+ghost use Rattle.plan_jobs.specs.Collects.{AreWholeCells, CollectedFrom, cell_by, cells_by, records_by, is_needed};
+ghost use Rattle.plan_jobs.specs.Collects.{IsVisited};
 
 use crate::cells::CellList;
 use crate::job::{Job, Wanted};

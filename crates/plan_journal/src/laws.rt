@@ -1,5 +1,6 @@
 //! What holds between journals and their texts.
-ghost use Rattle.plan_journal.specs.Laws.{JournalIsReadAgain, JournalIsReadAlone, NoJournalGoesOn, FaultyLineIsFirst, LargeIsToldFirst};
+ghost use Rattle.plan_journal.specs.Laws.{JournalIsReadAgain, JournalIsReadAlone, NoJournalGoesOn};
+ghost use Rattle.plan_journal.specs.Laws.{FaultyLineIsFirst, LargeIsToldFirst};
 
 /// What is read of a text is a journal with this text, and each journal is read from its texts. Too many bytes are told before all else.
 pub fn journals_have_one_text()

@@ -5,7 +5,8 @@ ghost use Rattle.plan_schema.specs.Outside.{Wrote};
 ghost use Rattle.row_text.specs.Spelling.{spaced, row_text};
 ghost use Rattle.command_words.specs.Pages.{Gathered};
 ghost use Rattle.command_words.specs.Replies.{ended};
-ghost use Rattle.plan_journal.specs.Entries.{change_words, entry_line, rows_text, rows_behind, entry_text, entries_text, journal_text};
+ghost use Rattle.plan_journal.specs.Entries.{change_words, entry_line, rows_text, rows_behind, entry_text};
+ghost use Rattle.plan_journal.specs.Entries.{entries_text, journal_text};
 
 use crate::journal::Journal;
 use arrayvec::ArrayVec;

@@ -7,7 +7,9 @@ ghost use Rattle.command_words.specs.Pages.{Gathered};
 ghost use Rattle.command_words.specs.Replies.{ended};
 ghost use Rattle.plan_make.specs.Numbers.{after};
 ghost use Rattle.plan_make.specs.Base as spec;
-ghost use Rattle.plan_make.specs.Base.{base_text, parts_text, behind_parts, behind_base, part_text, needs_text, behind_needs, bills_text, behind_bills, second_text, drawn_bill, behind_commas};
+ghost use Rattle.plan_make.specs.Base.{base_text, parts_text, behind_parts, behind_base, part_text, needs_text};
+ghost use Rattle.plan_make.specs.Base.{behind_needs, bills_text, behind_bills, second_text, drawn_bill};
+ghost use Rattle.plan_make.specs.Base.{behind_commas};
 
 use crate::numbers::Numbers;
 use arrayvec::ArrayVec;

@@ -2,7 +2,8 @@
 ghost use Rattle.std.specs.Prelude.{◌≡◌, ◌+◌, ◌≤◌, ◌<◌, ◌^◌, true, [], Some, IfOk, IfErr, OnOk, OnErr};
 ghost use Rattle.plan_schema.specs.Sound.{is_sound_entry};
 ghost use Rattle.turn_table.specs.Story.{Begins};
-ghost use Rattle.turn_table.specs.Passes.{IsFree, IsWhole, HasOwn, HadTickets, GoesOn, MayCount, first_pass, new_pass, after_split, joined_pass, met_pass, given_pass};
+ghost use Rattle.turn_table.specs.Passes.{IsFree, IsWhole, HasOwn, HadTickets, GoesOn, MayCount, first_pass};
+ghost use Rattle.turn_table.specs.Passes.{new_pass, after_split, joined_pass, met_pass, given_pass};
 ghost use Rattle.plan_walk.specs.Walk.{IsOpen, IsSolved, EndsSettled};
 ghost use Rattle.plan_core.specs.Holds.{HoldsFor};
 ghost use Rattle.plan_book.specs.Books.{entry_for, state_by};

@@ -1,7 +1,8 @@
 //! Where bytes come from and go to. A program over these traits is proved for every device that keeps to them: the clauses
 //! speak of the device's ghost meanings, which a device that tells nothing (a real file) leaves out as `None`.
 ghost use Rattle.std.specs.Prelude.{◌≡◌, ◌≤◌, ℕ, List, Option, IfOk, IsSome, Some, []};
-ghost use Rattle.plan_schema.specs.Outside.{Gives, ReadCause, Takes, WriteCause, Wrote, Stays, StaysBut, OpenCause, IsKeptOrEmpty, Counted};
+ghost use Rattle.plan_schema.specs.Outside.{Gives, ReadCause, Takes, WriteCause, Wrote, Stays, StaysBut, OpenCause};
+ghost use Rattle.plan_schema.specs.Outside.{IsKeptOrEmpty, Counted};
 
 /// A read that failed.
 #[derive(Clone, Copy)]

@@ -1,5 +1,6 @@
 //! The graph of the parts of a walk.
-ghost use Rattle.std.specs.Prelude.{◌≡◌, ◌<◌, ◌^◌, ℕ, true, length, take, Some, None, IfOk, OnOk, Contains, slice_get, is_some, replicate};
+ghost use Rattle.std.specs.Prelude.{◌≡◌, ◌<◌, ◌^◌, ℕ, true, length, take, Some, None, IfOk, OnOk, Contains};
+ghost use Rattle.std.specs.Prelude.{slice_get, is_some, replicate};
 ghost use Rattle.std.specs.Option.{option_map};
 ghost use Rattle.std.specs.List.{AllByRecursion, filter_map};
 ghost use Rattle.plan_schema.specs.declared.name.Name.{Name};

@@ -1,5 +1,6 @@
 //! The hits of a walk.
-ghost use Rattle.std.specs.Prelude.{◌≡◌, ◌+◌, ◌<◌, ◌≤◌, ◌^◌, ℕ, List, [], true, false, length, map, Some, IfOk, OnOk, slice_get, option_map, ◌==◌, ◌⊎◌};
+ghost use Rattle.std.specs.Prelude.{◌≡◌, ◌+◌, ◌<◌, ◌≤◌, ◌^◌, ℕ, List, [], true, false, length, map, Some, IfOk};
+ghost use Rattle.std.specs.Prelude.{OnOk, slice_get, option_map, ◌==◌, ◌⊎◌};
 ghost use Rattle.plan_schema.specs.declared.name.Name.{Name};
 ghost use Rattle.plan_schema.specs.Contents.{Contents};
 ghost use Rattle.record_versions.specs.declared.version.VersionId.{VersionId};

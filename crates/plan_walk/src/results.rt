@@ -1,5 +1,6 @@
 //! The results of a walk.
-ghost use Rattle.std.specs.Prelude.{◌≡◌, ◌+◌, ◌<◌, ◌≤◌, ◌^◌, ℕ, List, true, false, length, set, map, Some, IfOk, OnErr, slice_get, ◌==◌, ◌⊎◌, [], is_none, OnOk};
+ghost use Rattle.std.specs.Prelude.{◌≡◌, ◌+◌, ◌<◌, ◌≤◌, ◌^◌, ℕ, List, true, false, length, set, map, Some, IfOk};
+ghost use Rattle.std.specs.Prelude.{OnErr, slice_get, ◌==◌, ◌⊎◌, [], is_none, OnOk};
 ghost use Rattle.std.specs.List.{list_all, list_any};
 ghost use Rattle.std.specs.Arc.{arc_value};
 ghost use Rattle.planning_rules.specs.Plan.{has_outcome};

@@ -1,5 +1,6 @@
 //! One settling.
-ghost use Rattle.std.specs.Prelude.{◌≡◌, ◌+◌, ◌<◌, ◌^◌, ℕ, List, [], true, false, length, map, Some, IfOk, slice_get, ◌==◌, ◌⊎◌};
+ghost use Rattle.std.specs.Prelude.{◌≡◌, ◌+◌, ◌<◌, ◌^◌, ℕ, List, [], true, false, length, map, Some, IfOk};
+ghost use Rattle.std.specs.Prelude.{slice_get, ◌==◌, ◌⊎◌};
 ghost use Rattle.std.specs.List.{list_any};
 ghost use Rattle.walk_rules.specs.Cells.{Cells};
 ghost use Rattle.version_rules.specs.Meaning.{Meaning};

@@ -1,5 +1,9 @@
 //! What holds of the definitions of planning: each law is the contract of a function that does nothing.
-ghost use Rattle.planning_rules.specs.Laws.{AboveIsCost, AmountIsFirst, BestCostsLeast, OneBest, PlannedCostsLeast, PlannedIsBest, ChainsAreShort, CyclicHasNoLevel, CyclicIsNoLevel, LeastIsPromise, LeastNameIsLeast, LevelIsRefused, NoLevelIsCyclic, NoLevelIsNoPlan, OneNetting, PegsAreGross, PlanIsCyclic, PlanIsStep, WalkIsPlan};
+ghost use Rattle.planning_rules.specs.Laws.{AboveIsCost, AmountIsFirst, BestCostsLeast, OneBest, PlannedCostsLeast};
+ghost use Rattle.planning_rules.specs.Laws.{PlannedIsBest, ChainsAreShort, CyclicHasNoLevel, CyclicIsNoLevel};
+ghost use Rattle.planning_rules.specs.Laws.{LeastIsPromise, LeastNameIsLeast, LevelIsRefused, NoLevelIsCyclic};
+ghost use Rattle.planning_rules.specs.Laws.{NoLevelIsNoPlan, OneNetting, PegsAreGross, PlanIsCyclic, PlanIsStep};
+ghost use Rattle.planning_rules.specs.Laws.{WalkIsPlan};
 
 /// Exactly one list is that of the planned orders of an input.
 pub fn one_netting()

@@ -1,5 +1,6 @@
 //! Pairs of files, in rounds.
-ghost use Rattle.std.specs.Prelude.{◌≡◌, ◌<◌, ◌≤◌, ◌+◌, ◌∷◌, ◌++◌, [], false, None, Some, Err, map, length, option_map, IfOk, OnOk, IfNone, IfSome};
+ghost use Rattle.std.specs.Prelude.{◌≡◌, ◌<◌, ◌≤◌, ◌+◌, ◌∷◌, ◌++◌, [], false, None, Some, Err, map, length};
+ghost use Rattle.std.specs.Prelude.{option_map, IfOk, OnOk, IfNone, IfSome};
 ghost use Rattle.program_words.specs.Rounds as spec;
 ghost use Rattle.program_words.specs.Rounds.{rounds_in};
 

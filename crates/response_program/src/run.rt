@@ -1,5 +1,6 @@
 //! What the words ask for, and a run: sessions over a base, one after the other.
-ghost use Rattle.std.specs.Prelude.{◌≡◌, ◌≤◌, [], OnErr, IfOk, IfErr, None, Some, true, ℕ, List, map, length, option_map, string_bytes};
+ghost use Rattle.std.specs.Prelude.{◌≡◌, ◌≤◌, [], OnErr, IfOk, IfErr, None, Some, true, ℕ, List, map, length};
+ghost use Rattle.std.specs.Prelude.{option_map, string_bytes};
 ghost use Rattle.plan_schema.specs.Base.{is_base};
 ghost use Rattle.response_program.specs.Views.{view};
 ghost use Rattle.response_program.specs.Outcomes.{outcome_of};

@@ -1,6 +1,8 @@
 //! Reading and writing undo each other: each row, key, lot and number has one spelling, which is read as it, and no other
 //! text is.
-ghost use Rattle.row_text.specs.Laws.{RowIsReadAgain, RowIsReadAlone, KeyIsReadAgain, KeyIsReadAlone, LotIsReadAgain, LotIsReadAlone, NumberIsReadAgain, NumberIsReadAlone, FewFieldsTell};
+ghost use Rattle.row_text.specs.Laws.{RowIsReadAgain, RowIsReadAlone, KeyIsReadAgain, KeyIsReadAlone};
+ghost use Rattle.row_text.specs.Laws.{LotIsReadAgain, LotIsReadAlone, NumberIsReadAgain, NumberIsReadAlone};
+ghost use Rattle.row_text.specs.Laws.{FewFieldsTell};
 
 /// The fields of a sound row are read as that row, and no other fields are.
 pub fn rows_have_one_spelling()

@@ -3,7 +3,8 @@ ghost use Rattle.std.specs.Prelude.{◌≡◌, ◌+◌, ◌≤◌, [], ◌∷◌
 ghost use Rattle.arrayvec.specs.ArrayVec.{array_vec_len};
 ghost use Rattle.plan_schema.specs.Day.{day_text};
 ghost use Rattle.plan_schema.specs.Outside.{Wrote};
-ghost use Rattle.row_text.specs.Spelling.{spaced, words_text, mark, lot_text, week_text, calendar_text, span_fields, key_text, row_text, record_fields};
+ghost use Rattle.row_text.specs.Spelling.{spaced, words_text, mark, lot_text, week_text, calendar_text};
+ghost use Rattle.row_text.specs.Spelling.{span_fields, key_text, row_text, record_fields};
 
 use arrayvec::ArrayVec;
 use itoa::Buffer;

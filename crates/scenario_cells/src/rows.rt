@@ -1,5 +1,6 @@
 //! One row of a scenario, by its cell.
-ghost use Rattle.std.specs.Prelude.{◌≡◌, ◌&&◌, true, ◌+◌, ◌-◌, IfOk, if◌then◌else◌, Option, Some, None, length, OnErr, OnOk, is_some};
+ghost use Rattle.std.specs.Prelude.{◌≡◌, ◌&&◌, true, ◌+◌, ◌-◌, IfOk, if◌then◌else◌, Option, Some, None, length};
+ghost use Rattle.std.specs.Prelude.{OnErr, OnOk, is_some};
 ghost use Rattle.std.specs.Option.{option_copied};
 ghost use Rattle.std.specs.Arc.{arc_value};
 ghost use Rattle.plan_schema.specs.Key as key_spec;

@@ -1,5 +1,7 @@
 //! What holds of the definitions of scenarios: each law is the contract of a function that does nothing.
-ghost use Rattle.scenario_rules.specs.Laws.{CommitJoins, CommitKeepsOthers, DropIsGone, DropLeavesOthers, LegalIsWhole, RefusedIsAbsent, SameIsEqual, StepKeepsWhole, StepLeavesOthers, UpdateShowsParent, WholeContents};
+ghost use Rattle.scenario_rules.specs.Laws.{CommitJoins, CommitKeepsOthers, DropIsGone, DropLeavesOthers};
+ghost use Rattle.scenario_rules.specs.Laws.{LegalIsWhole, RefusedIsAbsent, SameIsEqual, StepKeepsWhole};
+ghost use Rattle.scenario_rules.specs.Laws.{StepLeavesOthers, UpdateShowsParent, WholeContents};
 
 /// Records that are the same by their table and fields are equal, and no others are.
 pub fn same_records_are_equal()

@@ -7,19 +7,17 @@ use Rattle.plan_schema.specs.declared.name.Name.{Name}
 use Rattle.plan_schema.specs.declared.change.Change.{Change}
 use Rattle.plan_schema.specs.declared.change.Entry.{Entry}
 use Rattle.plan_schema.specs.declared.refusal.Refusal.{Refusal}
-use Rattle.command_words.specs.declared.command.Command.{Command}
 use Rattle.command_words.specs.declared.reply.Reply.{Reply}
 use Rattle.command_words.specs.declared.reply.Reply.TheVariants as replies
 use Rattle.plan_book.specs.Books.{history, story_of}
 use Rattle.plan_office.specs.declared.fault.OfficeFault.{OfficeFault}
 use Rattle.plan_office.specs.declared.fault.OfficeFault.TheVariants as faults
 use Rattle.plan_office.proofs.Turns.{history_more}
-use Rattle.session_rules.specs.Requests.{Wish, Makes, Asks}
+use Rattle.session_rules.specs.Requests.{Wish, Makes}
 use Rattle.session_rules.specs.Answers.{change_reply, change_answer}
 use Rattle.session_rules.specs.Sessions.{IsMadeReply, IsReplyTo, is_load}
 use Rattle.session_rules.specs.Runs.{accepted_entry, accepted_point, IsRising}
 use Rattle.turn_table.specs.Story.{Begins}
-use Rattle.sessions.specs.Answered.{IsAnsweredOn}
 use Rattle.sessions.specs.Sights.{Sight, known, Looks, Enters, IsAcceptedAt, IsRefusedAt, IsRefusal, IsMade, entry_at}
 use Rattle.sessions.specs.Replied.{IsReplied, IsUntold, Gives, Stops}
 use Rattle.sessions.proofs.Seen.{begins_on, known_longer}
@@ -45,10 +43,6 @@ module _ {F : Type 0} (old new : Sight F) (user : Name) (line : ℕ) where
         entered = looks.own ∙ sym (ap (λ more. old.own ++ story_of more) none ∙ append-nil old.own);
         rises = subst (λ points. IsRising (length (known old)) points (length (known new))) (sym no_point) longer;
       }
-
-  -- the answer to a command that changes nothing, as a reply
-  pub asked_answers : (command : Command) (reply : Reply) → Looks old new → IsAnsweredOn old new user command reply → IsReplied old new user line (Asks command) reply
-  asked_answers command reply looks h = unentered (Asks command) reply looks (λ floor last low few. h old.place.may_change old.place.session floor last few) refl refl
 
 module _ {F : Type 0} (old new : Sight F) (user : Name) (line : ℕ) (change : Change) where
   abbrev entry : Entry
@@ -144,11 +138,6 @@ module _ {F S : Type 0} (sight : S → Sight F) (failed : S → S → Type 0) (w
       → Gives sight old new user (to_make line change) (replies.No point refusal)
   gives_refused fault point refusal is h = refused_change (sight old) (sight new) user line change point refusal (subst (λ f. IsMade sight failed worn old new made (Err f)) is h)
 
-  pub gives_wanting : (fault : OfficeFault) → fault ≡ faults.Memory → IsMade sight failed worn old new made (Err fault) → Gives sight old new user (to_make line change) replies.Mem
-  gives_wanting fault is h =
-      let it = subst (λ f. IsMade sight failed worn old new made (Err f)) is h in
-      wanting (sight old) (sight new) user line change it.0 it.1
-
   pub stops_failed : (fault : OfficeFault) → fault ≡ faults.Failed → IsMade sight failed worn old new made (Err fault) → Stops sight failed worn old new user (to_make line change) whys.Failed
   stops_failed fault is h =
       let it = subst (λ f. IsMade sight failed worn old new made (Err f)) is h in
@@ -157,8 +146,3 @@ module _ {F S : Type 0} (sight : S → Sight F) (failed : S → S → Type 0) (w
       by_either : (sight old).place.may_change ≡ true → Looks (sight old) (sight new) ⊎ Enters made (sight old) (sight new) → Looks (sight old) (sight new) ⊎ IsUntold (sight old) (sight new) user line (Makes change)
       by_either may (inl looks) = inl looks
       by_either may (inr enters) = inr (record { change = change; makes = refl; replied = entered_replied (sight old) (sight new) user line change (length (known (sight new))) may enters refl })
-
-  pub stops_worn : (fault : OfficeFault) → fault ≡ faults.Worn → IsMade sight failed worn old new made (Err fault) → Stops sight failed worn old new user (to_make line change) whys.Worn
-  stops_worn fault is h =
-      let it = subst (λ f. IsMade sight failed worn old new made (Err f)) is h in
-      record { cause = it.1; either = inl it.0 }

@@ -1,21 +1,17 @@
 -- Answers after all entries.
-use Rattle.std.proofs.Common.{◌≡◌, ℕ, ◌≤◌, List, length, Bool, true, false, Option, Some, None, refl, sym, ap, subst, ◌∙◌, arith, ◌⊎◌, inl, inr}
+use Rattle.std.proofs.Common.{◌≡◌, ℕ, ◌≤◌, List, length, Bool, true, Some, refl, sym, ap, subst, ◌∙◌, arith, ◌⊎◌, inl, inr}
 use Rattle.std.specs.Prelude.{IfSome}
-use Rattle.std.specs.Result.{result_ok}
 use Rattle.std.proofs.Math.Seq.{take-length}
 use Rattle.plan_schema.specs.declared.name.Name.{Name}
-use Rattle.plan_schema.specs.declared.refusal.Refusal.{Refusal}
 use Rattle.plan_schema.specs.declared.change.Entry.{Entry}
 use Rattle.plan_schema.specs.Contents.{Contents}
-use Rattle.query_language.specs.Trees.{QueryTree}
-use Rattle.query_language.specs.Growing.{query_of}
-use Rattle.scenario_rules.specs.World.{World, contents_in}
 use Rattle.scenario_rules.specs.Steps.{world_after}
 use Rattle.command_words.specs.declared.command.Command.{Command}
 use Rattle.command_words.specs.declared.command.Command.TheVariants as commands
 use Rattle.command_words.specs.declared.reply.Reply.{Reply}
 use Rattle.command_words.specs.declared.reply.Reply.TheVariants as replies
-use Rattle.session_rules.specs.Answers.{answer, trees, query_reply, select_answer}
+use Rattle.session_rules.proofs.Printing.{Prints, answer_prints}
+use Rattle.session_rules.specs.Answers.{answer, trees}
 use Rattle.turn_table.proofs.Stories.{begins-itself}
 use Rattle.session_rules.specs.Sessions.{IsAnswer, IsCommandReply, needs_no_memory}
 use Rattle.plan_book.specs.Books.{history}
@@ -27,41 +23,6 @@ use Rattle.sessions.proofs.Seen.{known_grows, known_longer, reply_stays}
 -- the answer to a command after all entries, whatever session asks and whatever point came before
 abbrev IsAnswered : Contents → List Entry → Name → Command → Reply → Type 0
 IsAnswered base entries user command reply = (may_change : Bool) (session floor last : ℕ) → last ≤ length entries → IsCommandReply may_change base entries session floor last user command reply
-
--- a reply that prints this point
-abbrev Prints : ℕ → Reply → Type 0
-Prints n (replies.Ok point) = point ≡ n
-Prints n (replies.Rows point lines) = point ≡ n
-Prints n (replies.No point refusal) = point ≡ n
-Prints n (replies.Bad bad) = ⊥
-Prints n replies.Mem = ⊥
-
-query_prints : (n : ℕ) (refusal : Option Refusal) (lines : List (List ℕ)) → Prints n (query_reply n refusal lines)
-query_prints n None lines = refl
-query_prints n (Some refusal) lines = refl
-
-select_prints : (world : World) (n : ℕ) (user scenario : Name) (c : Contents) (query : Option QueryTree) → IfSome (select_answer world n user scenario c query) (Prints n)
-select_prints world n user scenario c None = tt
-select_prints world n user scenario c (Some query) = query_prints n _ _
-
--- each answer prints the number of entries
-answer_prints : (base : Contents) (entries : List Entry) (user : Name) (command : Command) → IfSome (answer base entries user command) (Prints (length entries))
-unfolding answer
-answer_prints base entries user (commands.Hello name) = refl
-answer_prints base entries user commands.Point = refl
-answer_prints base entries user commands.Reclaim = refl
-answer_prints base entries user commands.Quit = refl
-answer_prints base entries user commands.Tree = refl
-answer_prints base entries user (commands.Show scenario cell) = query_prints (length entries) _ _
-answer_prints base entries user (commands.Level scenario part) = query_prints (length entries) _ _
-answer_prints base entries user (commands.Plan scenario part) = query_prints (length entries) _ _
-answer_prints base entries user (commands.Peg scenario part day) = query_prints (length entries) _ _
-answer_prints base entries user (commands.Atp scenario part) = query_prints (length entries) _ _
-answer_prints base entries user (commands.Cost scenario part) = query_prints (length entries) _ _
-answer_prints base entries user (commands.Select scenario text) =
-    let world = world_after base entries in
-    select_prints world (length entries) user scenario (contents_in world scenario) (result_ok (query_of text))
-answer_prints base entries user _ = tt
 
 module _ (base : Contents) (entries : List Entry) (user : Name) (command : Command) where
   -- so the answer is a legal reply behind all entries
@@ -112,13 +73,6 @@ no_memory_for command (inl hello) = ap needs_no_memory hello.1
 no_memory_for command (inr (inl point)) = ap needs_no_memory point
 no_memory_for command (inr (inr quit)) = ap needs_no_memory quit
 
--- a command for which there may be no memory
-pub may_want : (command : Command) → ((name : Name) → command ≡ commands.Hello name → ⊥) → (command ≡ commands.Point → ⊥) → (command ≡ commands.Quit → ⊥) → needs_no_memory command ≡ false
-may_want (commands.Hello name) hello point quit = absurd (hello name refl)
-may_want commands.Point hello point quit = absurd (point refl)
-may_want commands.Quit hello point quit = absurd (quit refl)
-may_want _ hello point quit = refl
-
 module _ {F : Type 0} (old new : Sight F) (user : Name) (command : Command) where
   -- the answer at what was seen at some time between is a legal reply
   pub exact_on_answered : Looks old new → (reply : Reply) → IsExactOn old new user command reply → IsAnsweredOn old new user command reply
@@ -135,10 +89,6 @@ module _ {F : Type 0} (old new : Sight F) (user : Name) (command : Command) wher
   point_on_answered looks point none is may_change session floor last few =
       let longer : length (known old) ≤ length (known new) = known_longer old new looks.place looks.grows in
       point_answered old.place.began.base (known new) user command point none is may_change session floor last (omega (arith, few, longer))
-
-  -- and want of memory, where there may be some
-  pub wanting_answered : needs_no_memory command ≡ false → IsAnsweredOn old new user command replies.Mem
-  wanting_answered some may_change session floor last few = some
 
 -- the answers of a reclaim and of a tree
 module _ {F : Type 0} (old new : Sight F) (user : Name) (looks : Looks old new) where

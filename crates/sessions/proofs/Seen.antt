@@ -24,17 +24,6 @@ module _ {F : Type 0} where
   pub looks_at : (old new : Sight F) → new ≡ old → Looks old new
   looks_at old new same = subst (λ s. Looks old s) (sym same) (looks_same old)
 
-  pub looks_on : (a b c : Sight F) → Looks a b → Looks b c → Looks a c
-  looks_on a b c first then =
-      let one = first.later in
-      let two = then.later in
-      record {
-        place = then.place ∙ first.place;
-        grows = begins_on a.seen b.seen c.seen first.grows then.grows;
-        own = then.own ∙ first.own;
-        later = omega (arith, one, two);
-      }
-
   -- the history that is known grows
   pub known_grows : (old new : Sight F) → new.place ≡ old.place → Begins old.seen new.seen → (more : List Entry) × (known new ≡ known old ++ more)
   known_grows old new place grows =

@@ -3,7 +3,8 @@ ghost use Rattle.std.specs.Prelude.{◌≡◌, ◌≤◌, true, length, Err, IfO
 ghost use Rattle.plan_schema.specs.Sound.{is_sound_change};
 ghost use Rattle.plan_walk.specs.Walk.{IsOpen, IsSolved, EndsSettled};
 ghost use Rattle.plan_office.specs.declared.fault.OfficeFault.TheVariants as office;
-ghost use Rattle.sessions.specs.Sights.{Sight, known, StandsAt, Looks, IsMade, IsAskedAt, IsUnaskedAt, IsTreeAt, IsRound, entry_at};
+ghost use Rattle.sessions.specs.Sights.{Sight, known, StandsAt, Looks, IsMade, IsAskedAt, IsUnaskedAt, IsTreeAt};
+ghost use Rattle.sessions.specs.Sights.{IsRound, entry_at};
 
 use command_words::Lines;
 use plan_jobs::{Job, Wanted};

@@ -1,6 +1,7 @@
 //! The rule of a turn, and the kinds of step that keep it.
 ghost use Rattle.turn_table.specs.Rule.{Kept};
-ghost use Rattle.turn_table.specs.Steps.{beginner, left_seat, right_seat, merged, spent, Opened, Started, Drew, Looked, Took, Marked, Gave, Leaves, Numbered, Compared};
+ghost use Rattle.turn_table.specs.Steps.{beginner, left_seat, right_seat, merged, spent, Opened, Started, Drew};
+ghost use Rattle.turn_table.specs.Steps.{Looked, Took, Marked, Gave, Leaves, Numbered, Compared};
 
 use crate::storied::Storied;
 use crate::view::View;

@@ -2,7 +2,10 @@
 ghost use Rattle.std.specs.Prelude.{◌≡◌, ◌+◌, ◌≤◌, ◌<◌, ◌^◌, true, false, cond, [], ◌∷◌, ◌++◌, length, Some, None};
 ghost use Rattle.turn_table.specs.Story.{entries_of, Begins, IsAdded};
 ghost use Rattle.turn_table.specs.Rule.{fewest, most, is_numbered, is_late, size};
-ghost use Rattle.turn_table.specs.Steps.{beginner, starter, with_ticket, at_turn, with_value, with_mark, without_value, after_turn, with_spare, left_seat, right_seat, merged, IsIdle, IsHolder, MayTake, MayWait, IsRight, IsStoryFor, AreFaultsFor, IsTicketFor};
+ghost use Rattle.turn_table.specs.Steps.{beginner, starter, with_ticket, at_turn, with_value, with_mark};
+ghost use Rattle.turn_table.specs.Steps.{without_value, after_turn, with_spare, left_seat, right_seat, merged};
+ghost use Rattle.turn_table.specs.Steps.{IsIdle, IsHolder, MayTake, MayWait, IsRight, IsStoryFor, AreFaultsFor};
+ghost use Rattle.turn_table.specs.Steps.{IsTicketFor};
 
 use crate::rule::{
     Compare, Draw, Leave, Look, Mark, Number, Open, PutBack, Seats, Start, TakeOut, TurnRule,

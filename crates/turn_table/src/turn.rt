@@ -3,7 +3,9 @@ ghost use Rattle.std.specs.Prelude.{◌≡◌, ◌+◌, ◌≤◌, ◌<◌, ◌^
 ghost use Rattle.turn_table.specs.Story.{entries_of, Begins};
 ghost use Rattle.turn_table.specs.Rule.{is_late};
 ghost use Rattle.turn_table.specs.Steps.{higher};
-ghost use Rattle.turn_table.specs.Passes.{IsFree, is_worn, HasOwn, first_pass, new_pass, after_split, joined_pass, met_pass, given_pass, DrawsOne, HadTickets, IsStoryOf, AreFaultsOf, GoesOn, MayCount};
+ghost use Rattle.turn_table.specs.Passes.{IsFree, is_worn, HasOwn, first_pass, new_pass, after_split, joined_pass};
+ghost use Rattle.turn_table.specs.Passes.{met_pass, given_pass, DrawsOne, HadTickets, IsStoryOf, AreFaultsOf};
+ghost use Rattle.turn_table.specs.Passes.{GoesOn, MayCount};
 
 use crate::pass::{Held, Pass, TurnFault, Worn};
 use crate::rule::TurnRule;

@@ -1,13 +1,13 @@
 use Rattle.std.proofs.Common.{◌≡◌, ◌+◌, [], ◌∷◌, ◌++◌, take, sym, ◌∙◌, ap, subst}
 use Rattle.low_level_codes.specs.Graphs.{shown}
 use Rattle.low_level_codes.specs.Numbers.{IsGraph}
-use Rattle.low_level_codes.proofs.GraphLaws.{take_next}
+use Rattle.std.proofs.lemmas.List.{take_more}
 use Rattle.low_level_codes.proofs.graph.Graph.of.Goals as goal
 
 pub loop-bill-preserved : goal.loop-bill-preserved
 loop-bill-preserved c =
     let more : take (c.loop-bill.bill-index + 1) c.args.bills.now ≡ take c.loop-bill.bill-index c.args.bills.now ++ c.bill-item.result ∷ [] =
-    take_next c.args.bills.now c.loop-bill.bill-index c.bill-item.result c.loop-bill-test.true ∙ ap (λ b. take c.loop-bill.bill-index c.args.bills.now ++ b ∷ []) (sym c.bill-item.is) in
+    take_more c.args.bills.now c.loop-bill.bill-index c.bill-item.result c.loop-bill-test.true ∙ ap (λ b. take c.loop-bill.bill-index c.args.bills.now ++ b ∷ []) (sym c.bill-item.is) in
     record {
       ups = c.in_ok-add.ensures.ups;
       downs = c.in_ok-add.ensures.downs;

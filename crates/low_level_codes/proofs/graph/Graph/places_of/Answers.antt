@@ -1,14 +1,14 @@
 use Rattle.std.proofs.Common.{◌≡◌, ◌+◌, [], ◌∷◌, ◌++◌, take, sym, ◌∙◌, ap, subst}
 use Rattle.low_level_codes.specs.Numbers.{StandAt}
 use Rattle.low_level_codes.proofs.Numbered.{stand_kept, stand_more}
-use Rattle.low_level_codes.proofs.GraphLaws.{take_next}
+use Rattle.std.proofs.lemmas.List.{take_more}
 use Rattle.low_level_codes.proofs.graph.Graph.places_of.Goals as goal
 
 pub loop-name-preserved : goal.loop-name-preserved
 loop-name-preserved c =
     let before = take c.loop-name.name-index c.args.names.now in
     let more : take (c.loop-name.name-index + 1) c.args.names.now ≡ before ++ c.name-item.result ∷ [] =
-    take_next c.args.names.now c.loop-name.name-index c.name-item.result c.loop-name-test.true ∙ ap (λ b. before ++ b ∷ []) (sym c.name-item.is) in
+    take_more c.args.names.now c.loop-name.name-index c.name-item.result c.loop-name-test.true ∙ ap (λ b. before ++ b ∷ []) (sym c.name-item.is) in
     record {
       ups = c.in_ok-place.ensures.ups;
       downs = c.in_ok-place.ensures.downs;

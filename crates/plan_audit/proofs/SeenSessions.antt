@@ -10,11 +10,10 @@ use Rattle.command_words.specs.Replies.{reply_text}
 use Rattle.session_rules.specs.Requests.{Request, requests_of, user_after}
 use Rattle.session_rules.specs.Sessions.{IsReply, AreReplies, point_after}
 use Rattle.session_rules.specs.Runs.{accepted_point, accepted_points}
-use Rattle.request_loop.specs.Serving.{is_past_limit, lines_within}
-use Rattle.request_loop.specs.Reading.{counted_lines}
+use Rattle.request_loop.specs.Serving.{heard_within, is_past_limit}
 use Rattle.plan_audit.specs.declared.verdict.AuditRule.{AuditRule}
 use Rattle.plan_audit.specs.declared.verdict.AuditRule.TheVariants as rules
-use Rattle.plan_audit.specs.Inputs.{heard, whole_requests}
+use Rattle.plan_audit.specs.Inputs.{heard}
 use Rattle.plan_audit.specs.Judging.{point_in, is_in_order, has_entry, is_right, rule_broken, Seen, none_seen, Broken, if_sound, reply_seen, reply_read, seen_after, all_seen}
 use Rattle.plan_audit.specs.Verdicts.{Pair, IsLong, behind_last, of_session, session_seen}
 use Rattle.plan_audit.specs.Laws.{IsLegalPair, SeenSessionIsLegal}
@@ -132,7 +131,7 @@ module _ (base : Contents) (entries : List Entry) (session floor ceiling : ℕ) 
   at_end pair points seen true long left is e low all = let no = e in cc
   at_end pair points seen false long (byte ∷ bytes) is e low all = let no = e in cc
   at_end pair points seen false long [] is e low all =
-      let requests_are : heard pair.input ≡ requests_of pair.input = ap (λ b. if b then whole_requests (counted_lines 1 (lines_within pair.input)) None else requests_of pair.input) long in
+      let requests_are : heard pair.input ≡ requests_of pair.input = ap (λ b. if b then heard_within pair.input else requests_of pair.input) long in
       let are = all_are (none_seen floor pair.output) seen (requests_of pair.input) low (ap (all_seen base entries session floor ceiling (none_seen floor pair.output)) (sym requests_are) ∙ all) in
       record {
         replies_given = are.given;

@@ -10,9 +10,8 @@ use Rattle.command_words.specs.Replies.{reply_text}
 use Rattle.scenario_rules.specs.Refused.{refused}
 use Rattle.session_rules.specs.Requests.{requests_of}
 use Rattle.session_rules.specs.Runs.{Desk, IsDesk, AreDesks, AreRounds, entries_of, accepted_points, accepted_at, accepted_in}
-use Rattle.request_loop.specs.Reading.{counted_lines}
-use Rattle.request_loop.specs.Serving.{is_past_limit, lines_within}
-use Rattle.plan_audit.specs.Inputs.{heard, whole_requests}
+use Rattle.request_loop.specs.Serving.{heard_within, is_past_limit}
+use Rattle.plan_audit.specs.Inputs.{heard}
 use Rattle.plan_audit.specs.Judging.{none_seen, all_seen}
 use Rattle.plan_audit.specs.Verdicts.{Pair, IsLong, behind_last, of_session, and_then_points, session_seen, round_seen, rounds_seen, number_or_later, first_refused, first_lost, judged_last, of_sessions, of_journal, audited}
 use Rattle.plan_audit.specs.Laws.{pair_at, AreWithin, AreInForm, LegalIsJudgedLegal}
@@ -26,7 +25,7 @@ module _ (base : Contents) (entries : List Entry) where
       → session_seen base entries floor ceiling session (pair_at desk) ≡ Ok (accepted_points (requests_of desk.input) desk.replies_given)
   unfolding session_seen heard
   session_so session floor ceiling desk legal within short =
-      let requests_are : heard desk.input ≡ requests_of desk.input = ap (λ b. if b then whole_requests (counted_lines 1 (lines_within desk.input)) None else requests_of desk.input) within in
+      let requests_are : heard desk.input ≡ requests_of desk.input = ap (λ b. if b then heard_within desk.input else requests_of desk.input) within in
       let text : desk.output ≡ flat_map reply_text desk.replies_given ++ [] = legal.legal.text ∙ sym (append-nil (flat_map reply_text desk.replies_given)) in
       let all = all_so base entries session floor ceiling (none_seen floor desk.output) (requests_of desk.input) desk.replies_given [] text legal.legal.legal legal.below short in
       ap (of_session session desk.input) (ap (all_seen base entries session floor ceiling (none_seen floor desk.output)) requests_are ∙ all.is)

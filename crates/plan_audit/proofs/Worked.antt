@@ -21,7 +21,7 @@ use Rattle.command_words.specs.Forms.{whole_reply}
 use Rattle.command_words.specs.Replies.{reply_text, head_words, bad_words, refusal_words}
 use Rattle.session_rules.specs.Requests.{requests_within, reading}
 use Rattle.session_rules.specs.Answers.{answer}
-use Rattle.request_loop.specs.Reading.{requests_from}
+use Rattle.request_loop.specs.Reading.{requests_from, requests_ending}
 use Rattle.request_loop.specs.Serving.{lines_within, is_past_limit}
 use Rattle.plan_audit.specs.declared.verdict.AuditRule.{AuditRule}
 use Rattle.plan_audit.specs.declared.verdict.AuditRule.TheVariants as rules
@@ -76,7 +76,7 @@ each_output_has_its_verdict : map (λ output. audited one_part (restock 1 (codes
     ∷ broken 1 2 rules.Answer
     ∷ broken 1 5 rules.Extra
     ∷ []
-unfolding audited first_refused first_lost rounds_seen round_seen session_seen all_seen seen_after heard is_past_limit lines_within lines_from requests_from requests_within reading words_of command_of command_of_verb verb_of hello_of point_of put_of only_name lines_of text_of_line name_at text_at end_at name_in is_name row_of row_of_table row_words.number_at row_words.stock_of whole_reply number_of answer reply_text head_words bad_words refusal_words digits
+unfolding audited first_refused first_lost rounds_seen round_seen session_seen all_seen seen_after heard is_past_limit lines_within lines_from requests_ending requests_within reading words_of command_of command_of_verb verb_of hello_of point_of put_of only_name lines_of text_of_line name_at text_at end_at name_in is_name row_of row_of_table row_words.number_at row_words.stock_of whole_reply number_of answer reply_text head_words bad_words refusal_words digits
 each_output_has_its_verdict = refl
 
 -- the verdicts on the right output by the journal: the entry is another user's, an entry is of a session that the run doesn't have, an
@@ -90,7 +90,7 @@ each_journal_has_its_verdict : map (λ entries. audited one_part entries (one_se
     ∷ broken 3 2 rules.Lost
     ∷ Judges (verdicts.Journal 1)
     ∷ []
-unfolding audited first_refused first_lost rounds_seen round_seen session_seen all_seen seen_after heard is_past_limit lines_within lines_from requests_from requests_within reading words_of command_of command_of_verb verb_of hello_of point_of put_of only_name lines_of text_of_line name_at text_at end_at name_in is_name row_of row_of_table row_words.number_at row_words.stock_of whole_reply number_of answer reply_text head_words bad_words refusal_words digits
+unfolding audited first_refused first_lost rounds_seen round_seen session_seen all_seen seen_after heard is_past_limit lines_within lines_from requests_ending requests_within reading words_of command_of command_of_verb verb_of hello_of point_of put_of only_name lines_of text_of_line name_at text_at end_at name_in is_name row_of row_of_table row_words.number_at row_words.stock_of whole_reply number_of answer reply_text head_words bad_words refusal_words digits
 each_journal_has_its_verdict = refl
 
 -- a session that looks, in the same round or behind: there it must know the change; before it, the planner comes too late for his entry
@@ -111,5 +111,5 @@ each_round_has_its_floor : map (λ rounds. audited one_part (restock 1 (codes "a
     ∷ Judges verdicts.Legal
     ∷ broken 2 1 rules.Point
     ∷ []
-unfolding audited first_refused first_lost rounds_seen round_seen session_seen all_seen seen_after heard is_past_limit lines_within lines_from requests_from requests_within reading words_of command_of command_of_verb verb_of hello_of point_of put_of only_name lines_of text_of_line name_at text_at end_at name_in is_name row_of row_of_table row_words.number_at row_words.stock_of whole_reply number_of answer reply_text head_words bad_words refusal_words digits
+unfolding audited first_refused first_lost rounds_seen round_seen session_seen all_seen seen_after heard is_past_limit lines_within lines_from requests_ending requests_within reading words_of command_of command_of_verb verb_of hello_of point_of put_of only_name lines_of text_of_line name_at text_at end_at name_in is_name row_of row_of_table row_words.number_at row_words.stock_of whole_reply number_of answer reply_text head_words bad_words refusal_words digits
 each_round_has_its_floor = refl

@@ -1,7 +1,8 @@
 -- How a session ends, once what the page held is written.
-use Rattle.std.proofs.Common.{◌≡◌, ℕ, ◌+◌, ◌≤◌, ◌<◌, List, [], ◌∷◌, ◌++◌, length, take, Option, Some, None, false, length-append, Result, Ok, Err, refl, sym, ap, subst, ◌∙◌, arith, append-nil, inl, inr}
+use Rattle.std.proofs.Common.{◌≡◌, ℕ, ◌+◌, ◌≤◌, ◌<◌, List, [], ◌∷◌, ◌++◌, length, take, Option, Some, None, true, false, length-append, Result, Ok, Err, refl, sym, ap, subst, ◌∙◌, arith, append-nil, inl, inr}
 use Rattle.std.specs.Prelude.{◌⊎◌}
 use Rattle.std.proofs.Math.Seq.{take-length, take-nil}
+use Rattle.std.proofs.lemmas.List.{take_all}
 use Rattle.plan_schema.specs.declared.name.Name.{Name}
 use Rattle.plan_schema.specs.declared.outside.SinkFault.{SinkFault}
 use Rattle.plan_schema.specs.declared.outside.SinkFault.TheVariants as sinks
@@ -18,13 +19,13 @@ use Rattle.request_loop.specs.declared.hear.Stop.TheVariants as stop
 use Rattle.request_loop.specs.Exchanges.{Exchange, requests_in}
 use Rattle.request_loop.specs.Chains.{IsChain}
 use Rattle.request_loop.specs.Printed.{IsHeld}
-use Rattle.request_loop.specs.Reading.{counted_lines, requests_from}
+use Rattle.request_loop.specs.Reading.{counted_lines, requests_ending, requests_from, whole_requests, left_over}
 use Rattle.request_loop.specs.Handed.{served_of, IsFlushed, HasEnded}
-use Rattle.request_loop.specs.Serving.{byte_limit, has_quit, is_past_limit, Serves, IsServed, IsServedShort, HasStopped, SoFar, HasQuit, IsOver, IsKeptShort, ServedMore, ServedLast, why_of}
+use Rattle.request_loop.specs.Serving.{byte_limit, line_limit, lines_within, heard_within, has_quit, is_past_limit, Serves, IsServed, IsServedShort, HasStopped, SoFar, HasQuit, IsOver, IsKeptShort, ServedMore, ServedLast, why_of}
 use Rattle.request_loop.specs.declared.gathering.Gathering.{Gathering}
 use Rattle.request_loop.proofs.Held.{written_all, printed}
 use Rattle.request_loop.proofs.FromLeft.{requests_are}
-use Rattle.request_loop.proofs.Limits.{is_within, past_bytes, quit_in_time, one_left}
+use Rattle.request_loop.proofs.Limits.{is_within, past_bytes, quit_in_time, one_left, all_within, within_full, within_bytes}
 use Rattle.request_loop.proofs.OneLine.{none_asked}
 
 whole_front : (taken then : Option (List ℕ)) (page : List ℕ) → then ≡ extended taken page → TookFront taken then page
@@ -62,6 +63,7 @@ module _ {S K : Type 0} (gives : S → Name → Request → Reply → S → Type
           printed = printed before (taken sink) (taken then) page log held (front_of (ends.Ended requests) result flushed);
           rest = inl refl;
           told = λ why is. absurd (no_why why is flushed);
+          over = λ is. absurd (no_limit is flushed);
         };
         limit = λ is. absurd (no_limit is flushed);
       }
@@ -82,21 +84,23 @@ module _ {S K : Type 0} (gives : S → Name → Request → Reply → S → Type
       no_limit is (inr f) = no_fault_limit result f.1 is
 
   -- the input is too long
-  pub too_long : (result : Served) → IsOver gives stops old new input page before (taken sink) → IsFlushed taken sink then page ends.Limit result → Serves gives stops old new input before (taken then) result
-  too_long result h flushed =
+  too_long : (result : Served) (log : List Exchange) (later : List Request) → requests_of input ≡ requests_in log ++ later → IsChain gives old guest log new → IsHeld before (taken sink) page log → is_past_limit input ≡ true → requests_in log ≡ heard_within input
+      → IsFlushed taken sink then page ends.Limit result → Serves gives stops old new input before (taken then) result
+  too_long result log later asked chain held limit heard flushed =
       record {
         whole = λ count is. absurd (no_end count is flushed);
         short = record {
-          log = h.log;
-          later = h.later;
-          asked = h.asked;
+          log = log;
+          later = later;
+          asked = asked;
           last = new;
-          chain = h.chain;
-          printed = printed before (taken sink) (taken then) page h.log h.held (front_of ends.Limit result flushed);
+          chain = chain;
+          printed = printed before (taken sink) (taken then) page log held (front_of ends.Limit result flushed);
           rest = inl refl;
           told = λ why is. absurd (no_why why is flushed);
+          over = λ is. heard;
         };
-        limit = λ is. h.limit;
+        limit = λ is. limit;
       }
     where
       no_end : (count : ℕ) → result ≡ ends.Ended count → IsFlushed taken sink then page ends.Limit result → ⊥
@@ -137,6 +141,7 @@ module _ {S K : Type 0} (gives : S → Name → Request → Reply → S → Type
           printed = printed before (taken sink) (taken then) page h.log h.held (front_of (served_of requests (Err (stop.Kept why))) result flushed);
           rest = inr (why, has_stopped);
           told = λ other is. subst (λ w. HasStopped gives stops h.last new h.log (requests_of input) before (taken then) w) (by_told other is flushed) has_stopped;
+          over = λ is. absurd (no_limit is flushed);
         };
         limit = λ is. absurd (no_limit is flushed);
       }
@@ -170,31 +175,41 @@ module _ {S K : Type 0} (gives : S → Name → Request → Reply → S → Type
       let end = sink_why fault requests result same.1 in
       subst (λ t. Serves gives stops old new input before t result) (sym same.0) (record {
         whole = λ count is. absurd (no_fault_end result end is);
-        short = record { log = h.log; later = h.later; asked = h.asked; last = h.last; chain = h.chain; printed = h.printed; rest = h.rest; told = λ why is. absurd (no_fault_why result why end is) };
+        short = record { log = h.log; later = h.later; asked = h.asked; last = h.last; chain = h.chain; printed = h.printed; rest = h.rest; told = λ why is. absurd (no_fault_why result why end is); over = λ is. absurd (no_fault_limit result end is) };
         limit = λ is. absurd (no_fault_limit result end is);
       })
 
   -- a session that ended with one of these
   pub by_stop : (found : Stop) (ls : List (Option (List ℕ))) (lines requests : ℕ) (user : Name) (rows : Option Gathering) (result : Served) → ServedMore gives stops old new input ls lines requests user rows page before (taken sink) (Err found) → HasEnded taken sink then page requests (Err found) result
-      → (found ≡ stop.Quit → HasQuit gives stops old new input lines requests page before (taken sink) → is_past_limit input ≡ false) → Serves gives stops old new input before (taken then) result
-  by_stop (stop.Sink fault) ls lines requests user rows result more end within = unwritten_at fault requests result more end
-  by_stop (stop.Kept why) ls lines requests user rows result more end within = stopped_at why requests result more end
-  by_stop stop.Limit ls lines requests user rows result more end within = too_long result more end
-  by_stop stop.Quit ls lines requests user rows result more end within =
+      → (found ≡ stop.Quit → HasQuit gives stops old new input lines requests page before (taken sink) → is_past_limit input ≡ false)
+      → (found ≡ stop.Limit → line_limit ≤ length (lines_from (Some []) (take byte_limit input)).0) → Serves gives stops old new input before (taken then) result
+  by_stop (stop.Sink fault) ls lines requests user rows result more end within full = unwritten_at fault requests result more end
+  by_stop (stop.Kept why) ls lines requests user rows result more end within full = stopped_at why requests result more end
+  by_stop stop.Limit ls lines requests user rows result more end within full =
+      let same : lines_within input ≡ more.read = all_within input more.read more.left more.whole (more.full ∙ sym (within_full input (full refl))) in
+      too_long result more.log more.later more.asked more.chain more.held more.limit (sym more.heard ∙ ap (λ ls. whole_requests (counted_lines 1 ls) None) (sym same)) end
+  by_stop stop.Quit ls lines requests user rows result more end within full =
       all_answered requests more.log result (sym (requests_are input) ∙ ap (λ l. requests_from (counted_lines 1 l) None) more.whole ∙ more.all more.left) more.many more.chain more.held (within refl more) end
 
   -- one that was read to its end, or stopped in its last line
   pub by_last : (end : Result (Unit {0}) Stop) (lines requests : ℕ) (user : Name) (result : Served) → ServedLast gives stops old new input lines requests user page before (taken sink) end → HasEnded taken sink then page requests end result
-      → length input ≤ byte_limit → (end ≡ Err stop.Quit → HasQuit gives stops old new input lines requests page before (taken sink) → is_past_limit input ≡ false) → Serves gives stops old new input before (taken then) result
-  by_last (Ok done) lines requests user result all end few quit = all_answered requests all.log result all.asked all.many all.chain all.held (is_within input few all.few) end
-  by_last (Err found) lines requests user result more end few quit = by_stop found [] lines requests user None result more end (λ is. quit (ap Err is))
+      → length input ≤ byte_limit → (end ≡ Err stop.Quit → HasQuit gives stops old new input lines requests page before (taken sink) → is_past_limit input ≡ false)
+      → (end ≡ Err stop.Limit → line_limit ≤ length (lines_from (Some []) input).0) → Serves gives stops old new input before (taken then) result
+  by_last (Ok done) lines requests user result all end few quit full = all_answered requests all.log result all.asked all.many all.chain all.held (is_within input few all.few) end
+  by_last (Err found) lines requests user result more end few quit full =
+      let whole : take byte_limit input ≡ input = take_all byte_limit input few in
+      by_stop found [] lines requests user None result more end (λ is. quit (ap Err is)) (λ is. subst (λ bytes. line_limit ≤ length (lines_from (Some []) bytes).0) (sym whole) (full (ap Err is)))
 
   -- a byte past the last that may be
   pub over_bytes : (front rest : List ℕ) (ls : List (Option (List ℕ))) (lines requests : ℕ) (user : Name) (rows : Option Gathering) (result : Served) → input ≡ front ++ rest → length front ≡ byte_limit → 0 < length rest → length (lines_from (Some []) front).0 ≡ lines
       → SoFar gives stops old new input ls lines requests user rows page before (taken sink) → HasEnded taken sink then page requests (Err stop.Limit) result → Serves gives stops old new input before (taken then) result
+  unfolding requests_ending
   over_bytes front rest ls lines requests user rows result whole all some counted s end =
       let limit = past_bytes input front rest whole s.read ls s.whole all some (counted ∙ sym s.counted) (none_asked gives stops old new input ls lines requests user rows page before (taken sink) s) in
-      too_long result (record { log = s.log; later = requests_from (counted_lines (lines + 1) ls) s.kept; asked = sym (requests_are input) ∙ ap (λ l. requests_from (counted_lines 1 l) None) s.whole ∙ s.rest ls; chain = s.chain; held = s.held; limit = limit }) end
+      let same : lines_within input ≡ s.read = all_within input s.read ls s.whole (s.counted ∙ sym (within_bytes input front rest whole all lines counted s.few)) in
+      let heard : requests_in s.log ≡ heard_within input =
+      sym (append-nil (requests_in s.log)) ∙ sym (s.rest (λ kept. []) []) ∙ ap (λ ls. whole_requests (counted_lines 1 ls) None) (append-nil s.read ∙ sym same) in
+      too_long result s.log (requests_from (counted_lines (lines + 1) ls) s.kept) (sym (requests_are input) ∙ ap (λ l. requests_from (counted_lines 1 l) None) s.whole ∙ s.rest left_over ls) s.chain s.held limit heard end
 
   -- a QUIT among the lines that end in the first bytes
   pub quit_within : (front rest : List ℕ) (lines requests : ℕ) → input ≡ front ++ rest → length front ≤ byte_limit → lines ≤ length (lines_from (Some []) front).0 → HasQuit gives stops old new input lines requests page before (taken sink) → is_past_limit input ≡ false

@@ -5,9 +5,9 @@ use Rattle.std.proofs.lemmas.List.{length-drop}
 use Rattle.command_words.specs.declared.command.Command.{Command}
 use Rattle.command_words.specs.declared.command.Command.TheVariants as commands
 use Rattle.command_words.specs.declared.reply.Bad.{Bad}
-use Rattle.session_rules.specs.Requests.{Line, is_blank_line, reading, read_wish, load_wish, is_quit, request_of, taken_by, requests_within, requests_of}
+use Rattle.session_rules.specs.Requests.{Line, Request, is_blank_line, reading, read_wish, load_wish, is_quit, request_of, taken_by, requests_within, requests_of}
 use Rattle.byte_lines.specs.Lines.{lines_of}
-use Rattle.request_loop.specs.Reading.{Rows, begun_rows, with_row, settled_by, begun, stepped, is_end, requests_from, counted_lines}
+use Rattle.request_loop.specs.Reading.{Rows, begun_rows, with_row, settled_by, begun, stepped, is_end, requests_from, counted_lines, requests_ending}
 
 with_rows : Rows → List Line → Rows
 with_rows r more = record r { rows = r.rows ++ more }
@@ -15,7 +15,7 @@ with_rows r more = record r { rows = r.rows ++ more }
 -- the rows that are still to come
 loading : (lines : List Line) (r : Rows) (k : ℕ) → r.count ≡ length r.rows + suc k
     → requests_from lines (Some r) ≡ record { line = r.line; wish = load_wish r.scenario r.count (r.rows ++ take (suc k) lines) } ∷ requests_from (drop (suc k) lines) None
-unfolding requests_from
+unfolding requests_ending
 loading [] r k many = ap (λ rows. record { line = r.line; wish = load_wish r.scenario r.count rows } ∷ []) (sym (append-nil r.rows))
 loading (line ∷ lines) r zero many =
     let full : nat_le r.count (length (r.rows ++ line ∷ [])) ≡ true = grind (arith, nat_tests, length-append r.rows (line ∷ [])) in
@@ -42,7 +42,7 @@ by_reading steps number (Err bad) lines rest few = ap (λ rs. record { line = nu
 by_reading steps number (Ok command) lines rest few = ap (λ rs. record { line = number; wish = read_wish (Ok command) } ∷ rs) (rest lines few)
 
 from_left : (steps : ℕ) (lines : List Line) → length lines ≤ steps → requests_from lines None ≡ requests_within steps lines
-unfolding requests_from requests_within
+unfolding requests_ending requests_within
 from_left zero [] few = refl
 from_left zero (line ∷ lines) few = absurd (omega arith)
 from_left (suc steps) [] few = refl
@@ -60,7 +60,7 @@ pub one_counted : (n : ℕ) (line : Option (List ℕ)) (more : List (Option (Lis
 one_counted n line more some = ap (λ b. cond (not b) ((n, line) ∷ counted_lines (n + 1) more) (counted_lines (n + 1) more)) some
 
 -- a line that counts completes what it does, and the requests of the lines behind it follow, unless it ends the session
-pub one_step : (n : ℕ) (line : Option (List ℕ)) (more : List (Option (List ℕ))) (kept : Option Rows) → is_blank_line (n, line) ≡ false
-    → requests_from (counted_lines n (line ∷ more)) kept ≡ (stepped kept (n, line)).0 ++ cond (is_end kept (n, line)) [] (requests_from (counted_lines (n + 1) more) (stepped kept (n, line)).1)
-unfolding requests_from
-one_step n line more kept some = ap (λ ls. requests_from ls kept) (one_counted n line more some)
+pub one_step : (ending : Option Rows → List Request) (n : ℕ) (line : Option (List ℕ)) (more : List (Option (List ℕ))) (kept : Option Rows) → is_blank_line (n, line) ≡ false
+    → requests_ending ending (counted_lines n (line ∷ more)) kept ≡ (stepped kept (n, line)).0 ++ cond (is_end kept (n, line)) [] (requests_ending ending (counted_lines (n + 1) more) (stepped kept (n, line)).1)
+unfolding requests_ending
+one_step ending n line more kept some = ap (λ ls. requests_ending ending ls kept) (one_counted n line more some)

@@ -14,7 +14,7 @@ use Rattle.byte_lines.specs.declared.rounds.Served.TheVariants as ends
 use Rattle.command_words.specs.declared.reply.Reply.{Reply}
 use Rattle.session_rules.specs.Requests.{Request, guest}
 use Rattle.request_loop.specs.declared.answers.Why.{Why}
-use Rattle.request_loop.specs.Reading.{counted_lines, requests_from}
+use Rattle.request_loop.specs.Reading.{counted_lines, requests_from, left_over}
 use Rattle.request_loop.specs.declared.gathering.Gathering.{Gathering}
 use Rattle.request_loop.specs.Serving.{byte_limit, sink_end, Serves, HasServed, SoFar, Going, why_of}
 use Rattle.request_loop.proofs.Held.{none_held, written_all, printed}
@@ -85,7 +85,7 @@ module _ {S : Type 0} (gives : S → Name → Request → Reply → S → Type 0
           log = [];
           kept = None;
           gathered = tt;
-          rest = λ more. refl;
+          rest = λ ending more. refl;
           no_quit = refl;
           many = refl;
           few_requests = omega arith;
@@ -142,12 +142,13 @@ module _ {S : Type 0} (gives : S → Name → Request → Reply → S → Type 0
           short = record {
             log = s.log;
             later = requests_from (counted_lines (lines + 1) ls) s.kept;
-            asked = sym (requests_are input) ∙ ap (λ l. requests_from (counted_lines 1 l) None) s.whole ∙ s.rest ls;
+            asked = sym (requests_are input) ∙ ap (λ l. requests_from (counted_lines 1 l) None) s.whole ∙ s.rest left_over ls;
             last = now;
             chain = s.chain;
             printed = printed before taken after page s.log s.held front;
             rest = inl refl;
             told = λ why is. absurd (no_why served no_fault no_worn why is);
+            over = λ is. absurd (no_limit is);
           };
           limit = λ is. absurd (no_limit is);
         }

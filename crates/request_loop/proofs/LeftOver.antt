@@ -6,19 +6,17 @@ use Rattle.plan_schema.proofs.Writes.{extended_nil}
 use Rattle.byte_lines.specs.Lines.{lines_of}
 use Rattle.byte_lines.specs.declared.rounds.Served.TheVariants as ends
 use Rattle.command_words.specs.declared.reply.Reply.{Reply}
-use Rattle.command_words.specs.declared.reply.Reply.TheVariants as replies
 use Rattle.command_words.specs.declared.reply.Bad.{Bad}
 use Rattle.command_words.specs.Replies.{reply_text}
 use Rattle.session_rules.specs.Requests.{Request, IsBad, load_wish, requests_of, guest}
-use Rattle.session_rules.specs.Runs.{accepted_point}
 use Rattle.request_loop.specs.declared.answers.Why.{Why}
 use Rattle.request_loop.specs.declared.gathering.Gathering.{Gathering}
-use Rattle.request_loop.specs.Exchanges.{Exchange, requests_in, speaker}
-use Rattle.request_loop.specs.Chains.{IsStepFor, IsChain}
+use Rattle.request_loop.specs.Exchanges.{Exchange, requests_in, to_tell}
+use Rattle.request_loop.specs.Chains.{IsChain}
 use Rattle.request_loop.specs.Printed.{IsHeld}
-use Rattle.request_loop.specs.Reading.{Rows, counted_lines, requests_from, left_over, load_request}
+use Rattle.request_loop.specs.Reading.{Rows, counted_lines, requests_from, left_over, load_request, requests_ending}
 use Rattle.request_loop.specs.Gathered.{IsGathered, AreGathered}
-use Rattle.request_loop.specs.Serving.{line_limit, SoFar, HasAnswered, IsServedShort}
+use Rattle.request_loop.specs.Serving.{line_limit, SoFar, HasAnswered, IsKeptShort, IsServedShort}
 use Rattle.request_loop.proofs.Held.{one_quiet, printed}
 use Rattle.request_loop.proofs.Chained.{chain_more}
 use Rattle.request_loop.proofs.FromLeft.{requests_are}
@@ -42,8 +40,8 @@ module _ {S : Type 0} (gives : S → Name → Request → Reply → S → Type 0
   few_lines = let all = ap length h.whole ∙ length-append h.read [] in let c = h.counted in let f = h.few in omega (arith, all, c, f)
 
   all_asked : requests_of input ≡ requests_in h.log ++ left_over h.kept
-  unfolding requests_from
-  all_asked = sym (requests_are input) ∙ ap (λ ls. requests_from (counted_lines 1 ls) None) h.whole ∙ h.rest []
+  unfolding requests_ending
+  all_asked = sym (requests_are input) ∙ ap (λ ls. requests_from (counted_lines 1 ls) None) h.whole ∙ h.rest left_over []
 
   -- no LOAD is begun
   pub nothing_left : rows ≡ None → HasAnswered gives stops old now input requests page before taken
@@ -61,57 +59,63 @@ module _ {S : Type 0} (gives : S → Name → Request → Reply → S → Type 0
   counted = let f = h.few in let fr = h.few_requests in omega arith
 
   -- one is
-  module _ (g : Gathering) (is : rows ≡ Some g) (bad : Bad) (told : (r : Rows) → IsGathered r g → load_wish r.scenario r.count r.rows ≡ IsBad bad) where
-    r : Rows
-    r = (one_begun h.kept g (subst (AreGathered h.kept) is h.gathered)).0
-
-    wish_is : (load_request r).wish ≡ IsBad bad
-    unfolding r
-    wish_is = let o = one_begun h.kept g (subst (AreGathered h.kept) is h.gathered) in told o.0 o.2
-
-    reply : Reply
-    reply = replies.Bad bad
-
-    exchange : Exchange
-    exchange = record { request = load_request r; reply = reply }
-
-    asked : requests_of input ≡ requests_in (h.log ++ exchange ∷ [])
-    unfolding r exchange
-    asked =
+  module _ (g : Gathering) (is : rows ≡ Some g) (bad : Bad) (faulty : (r : Rows) → IsGathered r g → load_wish r.scenario r.count r.rows ≡ IsBad bad) where
+    all_faulty : requests_of input ≡ requests_in h.log ++ to_tell g.line bad ∷ []
+    all_faulty =
         let o = one_begun h.kept g (subst (AreGathered h.kept) is h.gathered) in
-        all_asked ∙ ap (λ kept. requests_in h.log ++ left_over kept) o.1 ∙ sym (requests_more h.log (record { request = load_request o.0; reply = reply }))
+        let same : load_request o.0 ≡ to_tell g.line bad = λ i. record { line = sym o.2.line i; wish = faulty o.0 o.2 i } in
+        all_asked ∙ ap (λ kept. requests_in h.log ++ left_over kept) o.1 ∙ ap (λ request. requests_in h.log ++ request ∷ []) same
 
-    chain : IsChain gives old guest (h.log ++ exchange ∷ []) now
-    unfolding exchange reply
-    chain =
-        chain_more gives h.log old now now guest (record { request = load_request r; reply = replies.Bad bad }) h.chain
-        (subst (λ wish. IsStepFor gives now (speaker guest h.log) (load_request r) wish (replies.Bad bad) now) (sym wish_is) (record { reply_is = refl; same = refl }))
+    module _ (new : S) (reply : Reply) (step : gives now user (to_tell g.line bad) reply new) where
+      exchange : Exchange
+      exchange = record { request = to_tell g.line bad; reply = reply }
 
-    held : (then : Option (List ℕ)) (page_then written : List ℕ) → then ≡ extended taken written → written ++ page_then ≡ page ++ reply_text reply → IsHeld before then page_then (h.log ++ exchange ∷ [])
-    unfolding exchange reply
-    held then page_then written wrote rest =
-        one_quiet before taken page h.log then page_then written (record { request = load_request r; reply = replies.Bad bad }) h.held (ap (λ wish. accepted_point wish (replies.Bad bad) ++ []) wish_is) wrote rest
+      asked : requests_of input ≡ requests_in (h.log ++ exchange ∷ [])
+      unfolding exchange
+      asked = all_faulty ∙ sym (requests_more h.log (record { request = to_tell g.line bad; reply = reply }))
 
-    many : length (h.log ++ exchange ∷ []) ≡ requests + 1
-    many = let m = h.many in let l = length-append h.log (exchange ∷ []) in omega (arith, l)
+      chain : IsChain gives old guest (h.log ++ exchange ∷ []) new
+      unfolding exchange
+      chain = chain_more gives h.log old now new guest (record { request = to_tell g.line bad; reply = reply }) h.chain (subst (λ u. gives now u (to_tell g.line bad) reply new) h.user_is step)
 
-    -- and told so
-    pub one_left_over : (then : Option (List ℕ)) (page_then written : List ℕ) → then ≡ extended taken written → written ++ page_then ≡ page ++ reply_text (replies.Bad bad) → HasAnswered gives stops old now input (requests + 1) page_then before then
-    unfolding reply
-    one_left_over then page_then written wrote rest =
-        record { few = few_lines; log = h.log ++ exchange ∷ []; asked = asked; many = many; chain = chain; held = held then page_then written wrote rest }
+      held : (then : Option (List ℕ)) (page_then written : List ℕ) → then ≡ extended taken written → written ++ page_then ≡ page ++ reply_text reply → IsHeld before then page_then (h.log ++ exchange ∷ [])
+      unfolding exchange
+      held then page_then written wrote rest = one_quiet before taken page h.log then page_then written (record { request = to_tell g.line bad; reply = reply }) h.held refl wrote rest
 
-    -- or a front of the reply was written
-    pub one_unwritten : (then : Option (List ℕ)) → TookFront taken then (page ++ reply_text (replies.Bad bad)) → IsServedShort gives stops old now input before then ends.WriteFault
-    unfolding reply
-    one_unwritten then front =
+      many : length (h.log ++ exchange ∷ []) ≡ requests + 1
+      many = let m = h.many in let l = length-append h.log (exchange ∷ []) in omega (arith, l)
+
+      -- and it was answered
+      pub one_left_over : (then : Option (List ℕ)) (page_then written : List ℕ) → then ≡ extended taken written → written ++ page_then ≡ page ++ reply_text reply → HasAnswered gives stops old new input (requests + 1) page_then before then
+      one_left_over then page_then written wrote rest =
+          record { few = few_lines; log = h.log ++ exchange ∷ []; asked = asked; many = many; chain = chain; held = held then page_then written wrote rest }
+
+      -- or a front of the reply was written
+      pub one_unwritten : (then : Option (List ℕ)) → TookFront taken then (page ++ reply_text reply) → IsServedShort gives stops old new input before then ends.WriteFault
+      one_unwritten then front =
+          record {
+            log = h.log ++ exchange ∷ [];
+            later = [];
+            asked = asked ∙ sym (append-nil (requests_in (h.log ++ exchange ∷ [])));
+            last = new;
+            chain = chain;
+            printed = printed before taken then (page ++ reply_text reply) (h.log ++ exchange ∷ []) (held taken (page ++ reply_text reply) [] (extended_nil taken) refl) front;
+            rest = inl refl;
+            told = λ why same. absurd (let no : ⊥ = cc in no);
+            over = λ same. absurd (let no : ⊥ = cc in no);
+          }
+
+    -- or nothing more is answered
+    pub one_kept : (new : S) (why : Why) → stops now user (to_tell g.line bad) why new → IsKeptShort gives stops old new input page before taken why
+    one_kept new why stopped =
         record {
-          log = h.log ++ exchange ∷ [];
+          log = h.log;
+          request = to_tell g.line bad;
           later = [];
-          asked = asked ∙ sym (append-nil (requests_in (h.log ++ exchange ∷ [])));
+          asked = all_faulty;
           last = now;
-          chain = chain;
-          printed = printed before taken then (page ++ reply_text (replies.Bad bad)) (h.log ++ exchange ∷ []) (held taken (page ++ reply_text (replies.Bad bad)) [] (extended_nil taken) refl) front;
-          rest = inl refl;
-          told = λ why same. absurd (let no : ⊥ = cc in no);
+          chain = h.chain;
+          stopped = subst (λ u. stops now u (to_tell g.line bad) why new) h.user_is stopped;
+          held = h.held;
+          cleared = λ change made. absurd (let no : ⊥ = cc in no);
         }

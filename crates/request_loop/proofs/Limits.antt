@@ -18,7 +18,7 @@ use Rattle.command_words.specs.declared.command.Command.TheVariants as commands
 use Rattle.command_words.specs.declared.reply.Bad.{Bad}
 use Rattle.command_words.specs.declared.reply.Bad.TheVariants as bads
 use Rattle.session_rules.specs.Requests.{Line, is_blank_line, Request, Makes, IsBad, reading, read_wish, wish_of, is_quit, load_wish, load_of, first_fault, row_reading}
-use Rattle.request_loop.specs.Reading.{Rows, begun_rows, with_row, settled_by, begun, counted_lines, requests_from, stepped, is_end, left_over}
+use Rattle.request_loop.specs.Reading.{Rows, begun_rows, with_row, settled_by, begun, counted_lines, requests_from, stepped, is_end, left_over, requests_ending}
 use Rattle.request_loop.specs.Serving.{byte_limit, line_limit, lines_within, is_quit_wish, has_quit, is_past_limit}
 
 -- QUIT among requests -------------------------------------------------------------------------------------------------------
@@ -80,7 +80,7 @@ by_end true requests first more then h = h
 by_end false requests first more then h = quit_both requests more ∙ by_first (has_quit requests) (has_quit first) (has_quit more) then (sym (quit_both requests first) ∙ h)
 
 quit_stays : (lines more : List Line) (kept : Option Rows) → has_quit (requests_from lines kept) ≡ true → has_quit (requests_from (lines ++ more) kept) ≡ true
-unfolding requests_from
+unfolding requests_ending
 quit_stays [] more kept has = let never : false ≡ true = sym (no_quit_left kept) ∙ has in cc
 quit_stays (line ∷ lines) more kept has =
     by_end (is_end kept line) (stepped kept line).0 (requests_from lines (stepped kept line).1) (requests_from (lines ++ more) (stepped kept line).1) (quit_stays lines more (stepped kept line).1) has
@@ -161,6 +161,24 @@ within_some input read left parts few some =
     let apart : front ≡ read ++ drop (length read) front = sym (take-append-drop (length read) front) ∙ ap (λ l. l ++ drop (length read) front) (sym same) in
     ap (λ ls. has_quit (asked_in ls)) apart ∙ some (drop (length read) front)
 
+all_of : (taken limit all : ℕ) → taken ≡ min limit all → limit ≤ all → taken ≡ limit
+all_of taken limit all is many = omega (arith, is, many)
+
+none_over : (taken limit all lines : ℕ) → taken ≡ min limit all → all ≡ lines → lines ≤ limit → taken ≡ lines
+none_over taken limit all lines is same few = omega (arith, is, same, few)
+
+-- as many lines as those within the limits, from the left, are these
+pub all_within : (input : List ℕ) (read left : List (Option (List ℕ))) → lines_of input ≡ read ++ left → length read ≡ length (lines_within input) → lines_within input ≡ read
+all_within input read left parts long =
+    let front = lines_within input in
+    let behind = within_front input in
+    sym (take-append_seam front behind.0) ∙ ap (take (length front)) (sym behind.1 ∙ parts) ∙ ap (λ n. take n (read ++ left)) (sym long) ∙ take-append_seam read left
+
+-- there are as many as there may be, where so many end within the first bytes
+pub within_full : (input : List ℕ) → line_limit ≤ length (lines_from (Some []) (take byte_limit input)).0 → length (lines_within input) ≡ line_limit
+unfolding lines_within
+within_full input many = all_of _ line_limit _ (length-take line_limit (lines_from (Some []) (take byte_limit input)).0) many
+
 -- an input past a limit, without a QUIT within the limits
 is_past : (input : List ℕ) → (nat_lt byte_limit (length input) || nat_lt line_limit (length (lines_of input))) ≡ true → has_quit (asked_in (lines_within input)) ≡ false → is_past_limit input ≡ true
 unfolding is_past_limit
@@ -209,6 +227,21 @@ module _ (input front rest : List ℕ) (whole : input ≡ front ++ rest) where
       let few = within_complete input in
       let same = ap (λ bytes. length (lines_from (Some []) bytes).0) (first_of all) in
       is_past input (ap (λ b. b || nat_lt line_limit (length (lines_of input))) long) (within_none input read left parts (omega (arith, few, same, counted)) none)
+
+  -- those within the limits, where the first bytes are all that may be
+  pub within_bytes : length front ≡ byte_limit → (lines : ℕ) → length (lines_from (Some []) front).0 ≡ lines → lines ≤ line_limit → length (lines_within input) ≡ lines
+  unfolding lines_within
+  within_bytes all lines counted few =
+      let same = ap (λ bytes. length (lines_from (Some []) bytes).0) (first_of all) in
+      none_over _ line_limit _ lines (length-take line_limit (lines_from (Some []) (take byte_limit input)).0) (same ∙ counted) few
+
+  -- lines that end in the first bytes do within the limit of bytes
+  pub lines_in_time : (n : ℕ) → length front ≤ byte_limit → n ≤ length (lines_from (Some []) front).0 → n ≤ length (lines_from (Some []) (take byte_limit input)).0
+  lines_in_time n few_bytes many =
+      let more = take (byte_limit - length front) rest in
+      let first : take byte_limit input ≡ front ++ more = ap (take byte_limit) whole ∙ (ap (λ n. take n (front ++ rest)) (in_parts byte_limit (length front) few_bytes)) ∙ take-append-add front rest (byte_limit - length front) in
+      let lines = ap (λ bytes. length (lines_from (Some []) bytes).0) first ∙ ap (λ p. length p.0) (lines_from-append (Some []) front more) ∙ length-append (lines_from (Some []) front).0 (lines_from (lines_from (Some []) front).1 more).0 in
+      omega (arith, lines, many)
 
   -- QUIT stands in the lines that end in the first bytes, of which there aren't too many
   pub quit_in_time : (read left : List (Option (List ℕ))) → lines_of input ≡ read ++ left → length front ≤ byte_limit → length read ≤ length (lines_from (Some []) front).0 → length read ≤ line_limit

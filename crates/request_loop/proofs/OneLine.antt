@@ -15,9 +15,9 @@ use Rattle.request_loop.specs.declared.answers.Why.{Why}
 use Rattle.request_loop.specs.declared.hear.Answer.{Answer}
 use Rattle.request_loop.specs.declared.gathering.Gathering.{Gathering}
 use Rattle.request_loop.specs.Exchanges.{Exchange, requests_in, IsQuiet, speaker}
-use Rattle.request_loop.specs.Chains.{IsStep, IsChain}
+use Rattle.request_loop.specs.Chains.{IsChain}
 use Rattle.request_loop.specs.Printed.{IsHeld}
-use Rattle.request_loop.specs.Reading.{Rows, is_end, counted_lines, requests_from}
+use Rattle.request_loop.specs.Reading.{Rows, is_end, counted_lines, requests_from, requests_ending, whole_requests, left_over}
 use Rattle.request_loop.specs.Gathered.{AreGathered}
 use Rattle.request_loop.specs.Handed.{IsCleared}
 use Rattle.request_loop.specs.Heard.{CompletesNone, Completes, IsHeard, IsPassed, IsLineAnswer, IsUnwritten}
@@ -61,9 +61,9 @@ quit_more rs r = quit_both rs (r ∷ []) ∙ ap (λ b. has_quit rs || b) (or_fal
 -- the lines that were read have no QUIT
 pub none_asked : {S : Type 0} (gives : S → Name → Request → Reply → S → Type 0) (stops : S → Name → Request → Why → S → Type 0) (old now : S) (input : List ℕ) (left : List (Option (List ℕ))) (lines requests : ℕ) (user : Name) (rows : Option Gathering) (page : List ℕ)
     (before taken : Option (List ℕ)) (h : SoFar gives stops old now input left lines requests user rows page before taken) → has_quit (asked_in h.read) ≡ false
-unfolding requests_from
+unfolding requests_ending
 none_asked gives stops old now input left lines requests user rows page before taken h =
-    let all = ap (λ ls. requests_from (counted_lines 1 ls) None) (sym (append-nil h.read)) ∙ h.rest [] in
+    let all = ap (λ ls. requests_from (counted_lines 1 ls) None) (sym (append-nil h.read)) ∙ h.rest left_over [] in
     ap has_quit all ∙ quit_both (requests_in h.log) (requests_from (counted_lines (lines + 1) []) h.kept) ∙ (λ i. h.no_quit i || no_quit_left h.kept i)
 
 module _ {S K : Type 0} (gives : S → Name → Request → Reply → S → Type 0) (stops : S → Name → Request → Why → S → Type 0) (taken : K → Option (List ℕ)) where
@@ -76,19 +76,19 @@ module _ {S K : Type 0} (gives : S → Name → Request → Reply → S → Type
     one_read = let c = h.counted in let l = length-append h.read (line ∷ []) in omega (arith, l)
 
     -- the requests, with those of the line and of the lines behind it
-    from_here : (more : List (Option (List ℕ))) → requests_from (counted_lines 1 ((h.read ++ line ∷ []) ++ more)) None ≡ requests_in h.log ++ requests_from (counted_lines (lines + 1) (line ∷ more)) h.kept
-    from_here more = ap (λ ls. requests_from (counted_lines 1 ls) None) (append_assoc h.read (line ∷ []) more) ∙ h.rest (line ∷ more)
+    from_here : (ending : Option Rows → List Request) (more : List (Option (List ℕ))) → requests_ending ending (counted_lines 1 ((h.read ++ line ∷ []) ++ more)) None ≡ requests_in h.log ++ requests_ending ending (counted_lines (lines + 1) (line ∷ more)) h.kept
+    from_here ending more = ap (λ ls. requests_ending ending (counted_lines 1 ls) None) (append_assoc h.read (line ∷ []) more) ∙ h.rest ending (line ∷ more)
 
     -- the requests of the input
     all_from_here : requests_of input ≡ requests_in h.log ++ requests_from (counted_lines (lines + 1) (line ∷ left)) h.kept
-    all_from_here = sym (requests_are input) ∙ ap (λ ls. requests_from (counted_lines 1 ls) None) h.whole ∙ h.rest (line ∷ left)
+    all_from_here = sym (requests_are input) ∙ ap (λ ls. requests_from (counted_lines 1 ls) None) h.whole ∙ h.rest left_over (line ∷ left)
 
     -- a line that completes none
-    past_none : (next : Option Rows) → CompletesNone h.kept (lines + 1, line) next → (more : List (Option (List ℕ))) → requests_from (counted_lines (lines + 1) (line ∷ more)) h.kept ≡ requests_from (counted_lines (lines + 1 + 1) more) next
-    past_none next (inl (blank, same)) more = ap (λ ls. requests_from ls h.kept) (one_blank (lines + 1) line more blank) ∙ ap (requests_from (counted_lines (lines + 1 + 1) more)) (sym same)
-    past_none next (inr (some, goes_on)) more =
+    past_none : (ending : Option Rows → List Request) (next : Option Rows) → CompletesNone h.kept (lines + 1, line) next → (more : List (Option (List ℕ))) → requests_ending ending (counted_lines (lines + 1) (line ∷ more)) h.kept ≡ requests_ending ending (counted_lines (lines + 1 + 1) more) next
+    past_none ending next (inl (blank, same)) more = ap (λ ls. requests_ending ending ls h.kept) (one_blank (lines + 1) line more blank) ∙ ap (requests_ending ending (counted_lines (lines + 1 + 1) more)) (sym same)
+    past_none ending next (inr (some, goes_on)) more =
         let on : is_end h.kept (lines + 1, line) ≡ false = sym (quit_stepped h.kept (lines + 1, line)) ∙ ap (λ s. has_quit s.0) goes_on in
-        one_step (lines + 1) line more h.kept some ∙ (λ i. (goes_on i).0 ++ cond (on i) [] (requests_from (counted_lines (lines + 1 + 1) more) (goes_on i).1))
+        one_step ending (lines + 1) line more h.kept some ∙ (λ i. (goes_on i).0 ++ cond (on i) [] (requests_ending ending (counted_lines (lines + 1 + 1) more) (goes_on i).1))
 
     -- a line behind which nothing is answered yet
     pub passed : (new : S) (then : Name) (rows_then : Option Gathering) (page_then : List ℕ) (sink_then : K) → lines < line_limit → IsPassed gives stops taken now new user then h.kept rows_then (lines + 1, line) page page_then sink sink_then
@@ -102,7 +102,7 @@ module _ {S K : Type 0} (gives : S → Name → Request → Reply → S → Type
           log = h.log;
           kept = it.next;
           gathered = it.gathered;
-          rest = λ more. from_here more ∙ ap (λ rs. requests_in h.log ++ rs) (past_none it.next it.none more);
+          rest = λ ending more. from_here ending more ∙ ap (λ rs. requests_in h.log ++ rs) (past_none ending it.next it.none more);
           no_quit = h.no_quit;
           many = h.many;
           few_requests = let f = h.few_requests in omega arith;
@@ -123,6 +123,7 @@ module _ {S K : Type 0} (gives : S → Name → Request → Reply → S → Type
           printed = printed before (taken sink) (taken sink_then) page h.log h.held it.front;
           rest = inl it.same;
           told = λ why is. absurd (let no : ⊥ = cc in no);
+          over = λ is. absurd (let no : ⊥ = cc in no);
         }
 
     -- there are no more requests than lines, so their count doesn't run over
@@ -130,15 +131,15 @@ module _ {S K : Type 0} (gives : S → Name → Request → Reply → S → Type
     counted = let f = h.few in let fr = h.few_requests in omega arith
 
     module _ (request : Request) (done : Completes h.kept (lines + 1, line) request) where
-      behind : List (Option (List ℕ)) → List Request
-      behind more = cond (is_end h.kept (lines + 1, line)) [] (requests_from (counted_lines (lines + 1 + 1) more) None)
+      behind : (Option Rows → List Request) → List (Option (List ℕ)) → List Request
+      behind ending more = cond (is_end h.kept (lines + 1, line)) [] (requests_ending ending (counted_lines (lines + 1 + 1) more) None)
 
-      with_request : (more : List (Option (List ℕ))) → requests_from (counted_lines 1 ((h.read ++ line ∷ []) ++ more)) None ≡ requests_in h.log ++ request ∷ behind more
+      with_request : (ending : Option Rows → List Request) (more : List (Option (List ℕ))) → requests_ending ending (counted_lines 1 ((h.read ++ line ∷ []) ++ more)) None ≡ requests_in h.log ++ request ∷ behind ending more
       unfolding behind
-      with_request more = from_here more ∙ ap (λ rs. requests_in h.log ++ rs) (one_step (lines + 1) line more h.kept done.some ∙ ap (λ s. s.0 ++ cond (is_end h.kept (lines + 1, line)) [] (requests_from (counted_lines (lines + 1 + 1) more) s.1)) done.all)
+      with_request ending more = from_here ending more ∙ ap (λ rs. requests_in h.log ++ rs) (one_step ending (lines + 1) line more h.kept done.some ∙ ap (λ s. s.0 ++ cond (is_end h.kept (lines + 1, line)) [] (requests_ending ending (counted_lines (lines + 1 + 1) more) s.1)) done.all)
 
-      asked : requests_of input ≡ requests_in h.log ++ request ∷ behind left
-      asked = sym (requests_are input) ∙ ap (λ ls. requests_from (counted_lines 1 ls) None) one_line ∙ with_request left
+      asked : requests_of input ≡ requests_in h.log ++ request ∷ behind left_over left
+      asked = sym (requests_are input) ∙ ap (λ ls. requests_from (counted_lines 1 ls) None) one_line ∙ with_request left_over left
 
       quits_there : is_quit_wish request.wish ≡ is_end h.kept (lines + 1, line)
       quits_there = sym (or_false (is_quit_wish request.wish)) ∙ sym (ap (λ s. has_quit s.0) done.all) ∙ quit_stepped h.kept (lines + 1, line)
@@ -149,7 +150,7 @@ module _ {S K : Type 0} (gives : S → Name → Request → Reply → S → Type
           record {
             log = h.log;
             request = request;
-            later = behind left;
+            later = behind left_over left;
             asked = asked;
             last = now;
             chain = h.chain;
@@ -162,13 +163,13 @@ module _ {S K : Type 0} (gives : S → Name → Request → Reply → S → Type
           by_either (inl (none, all)) = subst (λ p. IsHeld before (taken sink_then) p h.log) (sym none) (none_held before (taken sink_then) h.log (written_all before (taken sink) page h.log (taken sink_then) h.held all))
           by_either (inr (same, still)) = subst (λ t. IsHeld before t page_then h.log) (sym still) (subst (λ p. IsHeld before (taken sink) p h.log) (sym same) h.held)
 
-      module _ (new : S) (page_mid : List ℕ) (mid : K) (reply : Reply) (step : IsStep gives now user request reply new) (cleared : IsCleared taken sink mid page page_mid request) where
+      module _ (new : S) (page_mid : List ℕ) (mid : K) (reply : Reply) (step : gives now user request reply new) (cleared : IsCleared taken sink mid page page_mid request) where
         exchange : Exchange
         exchange = record { request = request; reply = reply }
 
         chain : IsChain gives old guest (h.log ++ exchange ∷ []) new
         unfolding exchange
-        chain = chain_more gives h.log old now new guest (record { request = request; reply = reply }) h.chain (subst (λ u. IsStep gives now u request reply new) h.user_is step)
+        chain = chain_more gives h.log old now new guest (record { request = request; reply = reply }) h.chain (subst (λ u. gives now u request reply new) h.user_is step)
 
         held : (then_taken : Option (List ℕ)) (page_then written : List ℕ) → then_taken ≡ extended (taken mid) written → written ++ page_then ≡ page_mid ++ reply_text reply → IsHeld before then_taken page_then (h.log ++ exchange ∷ [])
         unfolding exchange
@@ -195,8 +196,8 @@ module _ {S K : Type 0} (gives : S → Name → Request → Reply → S → Type
               log = h.log ++ exchange ∷ [];
               kept = None;
               gathered = subst (AreGathered None) (sym none_left) tt;
-              rest = λ more. with_request more ∙ ap (λ b. requests_in h.log ++ request ∷ cond b [] (requests_from (counted_lines (lines + 1 + 1) more) None)) goes_on
-                  ∙ sym (append_assoc (requests_in h.log) (request ∷ []) (requests_from (counted_lines (lines + 1 + 1) more) None)) ∙ ap (λ rs. rs ++ requests_from (counted_lines (lines + 1 + 1) more) None) (sym all_asked);
+              rest = λ ending more. with_request ending more ∙ ap (λ b. requests_in h.log ++ request ∷ cond b [] (requests_ending ending (counted_lines (lines + 1 + 1) more) None)) goes_on
+                  ∙ sym (append_assoc (requests_in h.log) (request ∷ []) (requests_ending ending (counted_lines (lines + 1 + 1) more) None)) ∙ ap (λ rs. rs ++ requests_ending ending (counted_lines (lines + 1 + 1) more) None) (sym all_asked);
               no_quit = ap has_quit all_asked ∙ quit_more (requests_in h.log) request ∙ (λ i. h.no_quit i || (quits_there ∙ goes_on) i);
               many = many;
               few_requests = let f = h.few_requests in omega arith;
@@ -216,7 +217,7 @@ module _ {S K : Type 0} (gives : S → Name → Request → Reply → S → Type
               counted = one_read;
               few = omega (arith, few);
               log = h.log ++ exchange ∷ [];
-              all = λ more. with_request more ∙ ap (λ b. requests_in h.log ++ request ∷ cond b [] (requests_from (counted_lines (lines + 1 + 1) more) None)) ends_here ∙ sym all_asked;
+              all = λ more. with_request left_over more ∙ ap (λ b. requests_in h.log ++ request ∷ cond b [] (requests_from (counted_lines (lines + 1 + 1) more) None)) ends_here ∙ sym all_asked;
               has = ap has_quit all_asked ∙ quit_more (requests_in h.log) request ∙ (λ i. h.no_quit i || (quits_there ∙ ends_here) i);
               many = many;
               chain = chain;
@@ -228,17 +229,19 @@ module _ {S K : Type 0} (gives : S → Name → Request → Reply → S → Type
         unprinted sink_then front =
             record {
               log = h.log ++ exchange ∷ [];
-              later = behind left;
-              asked = asked ∙ sym (append_assoc (requests_in h.log) (request ∷ []) (behind left)) ∙ ap (λ rs. rs ++ behind left) (sym all_asked);
+              later = behind left_over left;
+              asked = asked ∙ sym (append_assoc (requests_in h.log) (request ∷ []) (behind left_over left)) ∙ ap (λ rs. rs ++ behind left_over left) (sym all_asked);
               last = new;
               chain = chain;
               printed = printed before (taken mid) (taken sink_then) (page_mid ++ reply_text reply) (h.log ++ exchange ∷ []) (held (taken mid) (page_mid ++ reply_text reply) [] (extended_nil (taken mid)) refl) front;
               rest = inl refl;
               told = λ why is. absurd (let no : ⊥ = cc in no);
+              over = λ is. absurd (let no : ⊥ = cc in no);
             }
 
     -- a line past the last that may be
     pub over : line_limit ≤ lines → IsOver gives stops old now input page before (taken sink)
+    unfolding requests_ending
     over most =
         record {
           log = h.log;
@@ -246,6 +249,11 @@ module _ {S K : Type 0} (gives : S → Name → Request → Reply → S → Type
           asked = all_from_here;
           chain = h.chain;
           held = h.held;
+          read = h.read;
+          left = line ∷ left;
+          whole = h.whole;
+          full = (let c = h.counted in let f = h.few in omega (arith, c, f, most));
+          heard = ap (λ ls. whole_requests (counted_lines 1 ls) None) (sym (append-nil h.read)) ∙ h.rest (λ kept. []) [] ∙ append-nil (requests_in h.log);
           limit = past_lines input h.read (line ∷ left) h.whole (let c = h.counted in omega (arith, c, most)) (omega arith) (none_asked gives stops old now input (line ∷ left) lines requests user rows page before (taken sink) h);
         }
 

@@ -6,7 +6,6 @@ use Rattle.command_words.specs.declared.reply.Reply.{Reply}
 use Rattle.session_rules.specs.Requests.{Line, is_blank_line, Request, user_after}
 use Rattle.request_loop.specs.Reading.{Rows, stepped, is_end}
 use Rattle.request_loop.specs.Gathered.{AreGathered}
-use Rattle.request_loop.specs.Chains.{IsStep}
 use Rattle.request_loop.specs.Handed.{IsCleared}
 use Rattle.request_loop.specs.declared.answers.Why.{Why}
 use Rattle.request_loop.specs.declared.gathering.Gathering.{Gathering}
@@ -23,10 +22,16 @@ pub record Completes (kept : Option Rows) (line : Line) (request : Request) : Ty
   pub some : is_blank_line line ≡ false
   pub all : stepped kept line ≡ (request ∷ [], None)
 
+-- a line that isn't in the grammar was handed on
+abbrev pub IsFaultHeard : {S : Type 0} → (S → Name → Request → Reply → S → Type 0) → (S → Name → Request → Why → S → Type 0) → S → S → Name → Request → Result (Option Answer) Stop → Type 0
+IsFaultHeard gives stops old new user request (Ok (Some answer)) = gives old user request answer.reply new × (answer.is_last ≡ false)
+IsFaultHeard gives stops old new user request (Err (stop.Kept why)) = stops old user request why new
+IsFaultHeard gives stops old new user request heard = ⊥
+
 module _ {S K : Type 0} (gives : S → Name → Request → Reply → S → Type 0) (stops : S → Name → Request → Why → S → Type 0) (taken : K → Option (List ℕ)) where
   -- a request was answered, or it was handed on and nothing more is answered; or what was to be written before it couldn't be
   abbrev pub IsTaken : S → S → Name → Request → List ℕ → List ℕ → K → K → Result Reply Stop → Type 0
-  IsTaken old new user request page page_then sink sink_then (Ok reply) = IsStep gives old user request reply new × IsCleared taken sink sink_then page page_then request
+  IsTaken old new user request page page_then sink sink_then (Ok reply) = gives old user request reply new × IsCleared taken sink sink_then page page_then request
   IsTaken old new user request page page_then sink sink_then (Err (stop.Sink fault)) = (new ≡ old) × TookFront (taken sink) (taken sink_then) page
   IsTaken old new user request page page_then sink sink_then (Err (stop.Kept why)) = stops old user request why new × IsCleared taken sink sink_then page page_then request
   IsTaken old new user request page page_then sink sink_then (Err stop.Limit) = ⊥
@@ -47,7 +52,7 @@ module _ {S K : Type 0} (gives : S → Name → Request → Reply → S → Type
     pub request : Request
     pub completes : Completes kept line request
     pub none_left : rows_then ≡ None
-    pub step : IsStep gives old user request answer.reply new
+    pub step : gives old user request answer.reply new
     pub user_is : then ≡ user_after user request.wish
     pub last : answer.is_last ≡ is_end kept line
     pub cleared : IsCleared taken sink sink_then page page_then request

@@ -16,7 +16,7 @@ use Rattle.session_rules.specs.Requests.{Wish, Makes, Asks, Request, requests_of
 use Rattle.request_loop.specs.Exchanges.{Exchange, requests_in, text_of, speaker}
 use Rattle.request_loop.specs.Chains.{IsChain}
 use Rattle.request_loop.specs.Printed.{IsHeld, IsPrinted}
-use Rattle.request_loop.specs.Reading.{Rows, counted_lines, requests_from}
+use Rattle.request_loop.specs.Reading.{Rows, counted_lines, requests_ending, requests_from, whole_requests}
 use Rattle.request_loop.specs.Gathered.{AreGathered}
 use Rattle.request_loop.specs.declared.gathering.Gathering.{Gathering}
 use Rattle.request_loop.specs.declared.answers.Why.{Why}
@@ -44,6 +44,10 @@ has_quit requests = list_any (λ request. is_quit_wish request.wish) requests
 -- an input is too long: it has more bytes or more lines than it may have, and no QUIT within the limits
 unfoldable pub is_past_limit : List ℕ → Bool
 is_past_limit input = (nat_lt byte_limit (length input) || nat_lt line_limit (length (lines_of input))) && not (has_quit (requests_from (counted_lines 1 (lines_within input)) None))
+
+-- the whole requests within the limits
+abbrev pub heard_within : List ℕ → List Request
+heard_within input = whole_requests (counted_lines 1 (lines_within input)) None
 
 -- how a session ends where its sink took no more
 abbrev pub sink_end : SinkFault → Served
@@ -73,7 +77,8 @@ module _ {S : Type 0} (gives : S → Name → Request → Reply → S → Type 0
     pub stopped : stops old (speaker guest log) request why new
     pub written : (change : Change) → request.wish ≡ Makes change → after ≡ extended before (text_of log)
 
-  -- a session that may have stopped before its end: the first requests were answered in a chain, and what follows of them was written
+  -- a session that may have stopped before its end: the first requests were answered in a chain, and what follows of them was written;
+  -- where the input is too long, they are all whole ones within its limits
   pub record IsServedShort (old new : S) (input : List ℕ) (before after : Option (List ℕ)) (served : Served) : Type 0 where
     pub log : List Exchange
     pub later : List Request
@@ -83,6 +88,7 @@ module _ {S : Type 0} (gives : S → Name → Request → Reply → S → Type 0
     pub printed : IsPrinted before after log
     pub rest : (new ≡ last) ⊎ ((why : Why) × HasStopped last new log (requests_of input) before after why)
     pub told : (why : Why) → why_of served ≡ Some why → HasStopped last new log (requests_of input) before after why
+    pub over : served ≡ ends.Limit → requests_in log ≡ heard_within input
 
   pub record Serves (old new : S) (input : List ℕ) (before after : Option (List ℕ)) (served : Served) : Type 0 where
     pub whole : (count : ℕ) → served ≡ ends.Ended count → IsServed old new input before after count
@@ -104,7 +110,7 @@ module _ {S : Type 0} (gives : S → Name → Request → Reply → S → Type 0
     pub log : List Exchange
     pub kept : Option Rows
     pub gathered : AreGathered kept rows
-    pub rest : (more : List (Option (List ℕ))) → requests_from (counted_lines 1 (read ++ more)) None ≡ requests_in log ++ requests_from (counted_lines (lines + 1) more) kept
+    pub rest : (ending : Option Rows → List Request) (more : List (Option (List ℕ))) → requests_ending ending (counted_lines 1 (read ++ more)) None ≡ requests_in log ++ requests_ending ending (counted_lines (lines + 1) more) kept
     pub no_quit : has_quit (requests_in log) ≡ false
     pub many : length log ≡ requests
     pub few_requests : requests ≤ lines
@@ -112,13 +118,18 @@ module _ {S : Type 0} (gives : S → Name → Request → Reply → S → Type 0
     pub chain : IsChain gives old guest log now
     pub held : IsHeld before taken page log
 
-  -- the input is too long
+  -- the input is too long: as many lines were read as there may be, and there is one more
   pub record IsOver (old new : S) (input page : List ℕ) (before taken : Option (List ℕ)) : Type 0 where
     pub log : List Exchange
     pub later : List Request
     pub asked : requests_of input ≡ requests_in log ++ later
     pub chain : IsChain gives old guest log new
     pub held : IsHeld before taken page log
+    pub read : List (Option (List ℕ))
+    pub left : List (Option (List ℕ))
+    pub whole : lines_of input ≡ read ++ left
+    pub full : length read ≡ line_limit
+    pub heard : whole_requests (counted_lines 1 read) None ≡ requests_in log
     pub limit : is_past_limit input ≡ true
 
   -- the session ended with QUIT, whose reply is in the page

@@ -5,11 +5,13 @@ ghost use Rattle.command_words.specs.Spelling.{is_sound_command};
 ghost use Rattle.plan_schema.specs.Sound.{is_sound_change};
 ghost use Rattle.session_rules.specs.Requests as requests;
 ghost use Rattle.session_rules.specs.Requests.{Wish};
-ghost use Rattle.request_loop.specs.Exchanges.{to_make};
+ghost use Rattle.session_rules.specs.Sessions.{is_load};
+ghost use Rattle.plan_schema.specs.declared.change.Change.{Change};
+ghost use Rattle.request_loop.specs.Exchanges.{to_make, to_tell};
 ghost use Rattle.request_loop.specs.Reading.{Rows};
 ghost use Rattle.request_loop.specs.Gathered.{IsGathered, AreGathered, AreBegun, ComesTo};
 ghost use Rattle.request_loop.specs.Handed.{WriteCauses};
-ghost use Rattle.request_loop.specs.Heard.{IsTaken, IsHeard};
+ghost use Rattle.request_loop.specs.Heard.{IsTaken, IsHeard, IsFaultHeard};
 
 use crate::answers::{Answers, Why};
 use crate::gathering::{Gathered, Gathering};
@@ -138,7 +140,7 @@ fn hear_row<A: Answers, K: Sink>(
     }
 }
 
-/// Hands a LOAD on, once its rows were read. Where there was no memory for them, it is answered so, behind what the page held.
+/// Hands a LOAD on, once its rows were read.
 fn load_handed_on<A: Answers, K: Sink>(
     answers: &A,
     state: &mut A::State,
@@ -160,14 +162,39 @@ fn load_handed_on<A: Answers, K: Sink>(
         result }
 {
     match gathered {
-        Gathered::Faulty(bad) => Ok(Reply::Bad(bad)),
-        Gathered::Wanting => match flush(page, sink) {
-            Ok(()) => Ok(Reply::Mem),
-            Err(fault) => Err(Stop::Sink(fault)),
+        Gathered::Faulty(bad) => match answers.faulty(state, line, user, bad) {
+            Ok(reply) => Ok(reply),
+            Err(why) => Err(Stop::Kept(why)),
         },
+        Gathered::Wanting => want_handed_on(answers, state, line, user, page, sink),
         Gathered::Sound(change) => {
             change_handed_on(answers, state, line, user, change, page, sink)
         }
+    }
+}
+
+/// Hands on that there was no memory for the rows of a LOAD, behind what the page held.
+fn want_handed_on<A: Answers, K: Sink>(
+    answers: &A,
+    state: &mut A::State,
+    line: u64,
+    user: &Name,
+    page: &mut Page,
+    sink: &mut K,
+) -> Result<Reply, Stop>
+    requires ready { A.ready answers.now state.old }
+    ensures ready { A.ready answers.now state.new }
+    ensures cause { WriteCauses K.faults K.label sink.old sink.new result }
+    ensures taken { (change : Change) → is_load change ≡ true
+        → IsTaken (A.gives answers.now) (A.stops answers.now) K.taken state.old state.new user.now
+        (to_make line change) page.old.items page.new.items sink.old sink.new result }
+{
+    match flush(page, sink) {
+        Ok(()) => match answers.wanting(state, line, user) {
+            Ok(reply) => Ok(reply),
+            Err(why) => Err(Stop::Kept(why)),
+        },
+        Err(fault) => Err(Stop::Sink(fault)),
     }
 }
 
@@ -199,7 +226,7 @@ fn hear_request<A: Answers, K: Sink>(
 {
     match line {
         Some(text) => hear_command(alloc, answers, state, number, user, rows, text, page, sink),
-        None => Ok(Some(Answer::going_on(Reply::Bad(Bad::Long)))),
+        None => hear_fault(answers, state, number, user, Bad::Long),
     }
 }
 
@@ -230,7 +257,7 @@ fn hear_command<A: Answers, K: Sink>(
 {
     let command = match read_request(text) {
         Ok(command) => command,
-        Err(bad) => return Ok(Some(Answer::going_on(Reply::Bad(bad)))),
+        Err(bad) => return hear_fault(answers, state, number, user, bad),
     };
     if let Command::Load { scenario, count } = &command {
         *rows = Some(Gathering::begin(alloc, number, scenario, *count));
@@ -239,6 +266,25 @@ fn hear_command<A: Answers, K: Sink>(
     match answer_command(answers, state, number, user, &command, page, sink) {
         Ok(answer) => Ok(Some(answer)),
         Err(stop) => Err(stop),
+    }
+}
+
+/// Hands on that a line isn't in the grammar.
+fn hear_fault<A: Answers>(
+    answers: &A,
+    state: &mut A::State,
+    line: u64,
+    user: &Name,
+    bad: Bad,
+) -> Result<Option<Answer>, Stop>
+    requires ready { A.ready answers.now state.old }
+    ensures ready { A.ready answers.now state.new }
+    ensures told { IsFaultHeard (A.gives answers.now) (A.stops answers.now) state.old state.new
+        user.now (to_tell line bad) result }
+{
+    match answers.faulty(state, line, user, bad) {
+        Ok(reply) => Ok(Some(Answer::going_on(reply))),
+        Err(why) => Err(Stop::Kept(why)),
     }
 }
 

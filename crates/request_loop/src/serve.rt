@@ -15,7 +15,7 @@ use crate::answers::{Answers, Why};
 use crate::gathering::Gathering;
 use crate::hear::{Stop, hear};
 use byte_lines::{Cut, Cutter, Served, Sink, SinkFault, Source};
-use command_words::{Page, Reply, flush, put_reply};
+use command_words::{Page, flush, put_reply};
 use plan_schema::Name;
 use plan_schema::limits::{BYTE_LIMIT, LINE_LIMIT};
 use std::alloc::Global;
@@ -145,6 +145,8 @@ fn serve_piece<A: Answers, K: Sink>(
         + length (lines_from progress.old.cutter.kept piece.now).0) }
     ensures most { progress.new.lines ≤ progress.old.lines
         + length (lines_from progress.old.cutter.kept piece.now).0 }
+    ensures full { result ≡ Err stop.Limit → LINE_LIMIT ≤ progress.old.lines
+        + length (lines_from progress.old.cutter.kept piece.now).0 }
     ensures rows { AreBegun progress.new.rows }
     ensures ready { A.ready answers.now state.new }
     ensures cause { WriteCauses K.faults K.label sink.old sink.new result }
@@ -183,6 +185,7 @@ fn serve_last<A: Answers, K: Sink>(
     requires ready { A.ready answers.now state.old }
     requires rows { AreBegun progress.old.rows }
     ensures quit { result ≡ Err stop.Quit → progress.new.lines ≡ progress.old.lines + 1 }
+    ensures full { result ≡ Err stop.Limit → LINE_LIMIT ≤ progress.old.lines }
     ensures rows { AreBegun progress.new.rows }
     ensures ready { A.ready answers.now state.new }
     ensures cause { WriteCauses K.faults K.label sink.old sink.new result }
@@ -213,6 +216,7 @@ fn serve_rest<A: Answers, K: Sink>(
     requires ready { A.ready answers.now state.old }
     requires rows { AreBegun progress.old.rows }
     ensures quit { result ≡ Err stop.Quit → progress.new.lines ≡ progress.old.lines + 1 }
+    ensures full { result ≡ Err stop.Limit → LINE_LIMIT ≤ progress.old.lines }
     ensures ready { A.ready answers.now state.new }
     ensures cause { WriteCauses K.faults K.label sink.old sink.new result }
     ensures served { (old : A.State) (input : List ℕ) (before : Option (List ℕ))
@@ -229,30 +233,36 @@ fn serve_rest<A: Answers, K: Sink>(
     }
 }
 
-/// Answers a LOAD whose last rows are missing, where one was begun. Contracts alone speak of the answerer and its state: nothing is
-/// handed on.
+/// Hands on that the last rows of a LOAD are missing, where one was begun.
 fn serve_left_over<A: Answers, K: Sink>(
-    _answers: &A,
-    _state: &A::State,
+    answers: &A,
+    state: &mut A::State,
     progress: &mut Progress,
     page: &mut Page,
     sink: &mut K,
 ) -> Result<(), Stop>
-    requires { AreBegun progress.old.rows }
+    requires ready { A.ready answers.now state.old }
+    requires rows { AreBegun progress.old.rows }
+    ensures ready { A.ready answers.now state.new }
     ensures lines { progress.new.lines ≡ progress.old.lines }
     ensures going { result ≢ Err stop.Quit }
+    ensures within { result ≢ Err stop.Limit }
     ensures cause { WriteCauses K.faults K.label sink.old sink.new result }
     ensures served { (old : A.State) (input : List ℕ) (before : Option (List ℕ))
-        → SoFar (A.gives _answers.now) (A.stops _answers.now) old _state.now input
+        → SoFar (A.gives answers.now) (A.stops answers.now) old state.old input
         [] progress.old.lines progress.old.requests progress.old.user
         progress.old.rows page.old.items before (K.taken sink.old)
-        → ServedLast (A.gives _answers.now) (A.stops _answers.now) old _state.now input
+        → ServedLast (A.gives answers.now) (A.stops answers.now) old state.new input
         progress.new.lines progress.new.requests progress.new.user page.new.items before (K.taken sink.new) result }
 {
     let Some(begun) = progress.rows.take() else {
         return Ok(());
     };
-    let reply = Reply::Bad(begun.cut_short());
+    let line = begun.line;
+    let reply = match answers.faulty(state, line, &progress.user, begun.cut_short()) {
+        Ok(reply) => reply,
+        Err(why) => return Err(Stop::Kept(why)),
+    };
     progress.requests = progress.requests.saturating_add(1);
     match put_reply(page, &reply, sink) {
         Ok(()) => Ok(()),
@@ -276,6 +286,7 @@ fn serve_line<A: Answers, K: Sink>(
     ensures counted { OnOk result (progress.new.lines ≡ progress.old.lines + 1) }
     ensures most { progress.new.lines ≤ progress.old.lines + 1 }
     ensures quit { result ≡ Err stop.Quit → progress.new.lines ≡ progress.old.lines + 1 }
+    ensures full { result ≡ Err stop.Limit → LINE_LIMIT ≤ progress.old.lines }
     ensures rows { AreBegun progress.new.rows }
     ensures ready { A.ready answers.now state.new }
     ensures cause { WriteCauses K.faults K.label sink.old sink.new result }

@@ -3,7 +3,7 @@ ghost use Rattle.std.specs.Prelude.{◌≤◌, Some, [], drop, length};
 
 use crate::{Answers, Served, Why, serve_requests};
 use byte_lines::{Bytes, Failed, Source, SteadyOut};
-use command_words::{Command, Reply};
+use command_words::{Bad, Command, Reply};
 use plan_schema::{Change, Name, Refusal};
 use std::alloc::{AllocError, Global};
 use std::test::Fail;
@@ -54,6 +54,14 @@ impl Answers for Counting {
     fn change(&self, count: &mut u64, _: u64, _: &Name, _: Change) -> Result<Reply, Why> {
         *count = count.saturating_add(1);
         Ok(Reply::Ok(*count))
+    }
+
+    fn faulty(&self, _: &mut u64, _: u64, _: &Name, bad: Bad) -> Result<Reply, Why> {
+        Ok(Reply::Bad(bad))
+    }
+
+    fn wanting(&self, _: &mut u64, _: u64, _: &Name) -> Result<Reply, Why> {
+        Ok(Reply::Mem)
     }
 
     fn ask(

@@ -9,7 +9,7 @@ use Rattle.command_words.specs.declared.reply.Reply.{Reply}
 use Rattle.command_words.specs.declared.reply.Reply.TheVariants as replies
 use Rattle.session_rules.specs.Requests.{Request, requests_of, guest}
 use Rattle.request_loop.specs.Exchanges.{Exchange, requests_in, replies_in, text_of, speaker, IsQuiet}
-use Rattle.request_loop.specs.Chains.{IsStep, IsStepFor, IsChain}
+use Rattle.request_loop.specs.Chains.{IsChain}
 use Rattle.request_loop.specs.Printed.{IsPrinted}
 use Rattle.request_loop.specs.Serving as loop
 use Rattle.request_loop.specs.declared.answers.Why.{Why}
@@ -108,8 +108,7 @@ module _ {F S : Type 0} (sight : S → Sight F) (failed : S → S → Type 0) (w
           → (h : loop.HasStopped (gives sight) stops last new log (requests_of input) before after why) → IsUntold (sight last) (sight new) (speaker guest log) h.request.line h.request.wish → IsShort right input before after
       untold_short log last why chain h untold =
           let x : Exchange = record { request = h.request; reply = replies.Ok (length (known (sight new))) } in
-          let step : IsStep (gives sight) last (speaker guest log) h.request x.reply new =
-          subst (λ wish. IsStepFor (gives sight) last (speaker guest log) h.request wish x.reply new) (sym untold.makes) (inl untold.replied) in
+          let step : gives sight last (speaker guest log) h.request x.reply new = untold.replied in
           let more : IsChain (gives sight) old guest (log ++ x ∷ []) new = chain_more (gives sight) log old last new guest x chain step in
           short_from right fronts input before after log (x ∷ []) h.later 0 (omega arith)
           (h.asked ∙ sym (append_assoc (requests_in log) (h.request ∷ []) h.later) ∙ ap (λ requests. requests ++ h.later) (sym (map-append (λ (y : Exchange). y.request) log (x ∷ []))))

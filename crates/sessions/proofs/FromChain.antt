@@ -1,36 +1,24 @@
 -- From a chain of answers to a session.
-use Rattle.std.proofs.Common.{◌≡◌, ℕ, ◌≤◌, List, [], ◌∷◌, ◌++◌, length, refl, sym, ap, subst, ◌∙◌, arith, inl, inr}
+use Rattle.std.proofs.Common.{◌≡◌, ℕ, ◌≤◌, List, [], ◌∷◌, ◌++◌, length, refl, sym, ap, subst, ◌∙◌, arith}
 use Rattle.plan_schema.specs.declared.name.Name.{Name}
 use Rattle.plan_schema.specs.declared.change.Entry.{Entry}
 use Rattle.command_words.specs.declared.reply.Reply.{Reply}
-use Rattle.command_words.specs.declared.reply.Reply.TheVariants as replies
 use Rattle.turn_table.specs.Story.{Begins}
 use Rattle.plan_book.specs.Books.{Story, history, story_of}
-use Rattle.session_rules.specs.Requests.{Request, Wish, Makes, Asks, IsBad, user_after, guest}
+use Rattle.session_rules.specs.Requests.{Request, Wish, user_after, guest}
 use Rattle.session_rules.specs.Sessions.{IsReplyTo}
 use Rattle.session_rules.specs.Runs.{accepted_point, accepted_entry, IsRising}
 use Rattle.request_loop.specs.Exchanges.{Exchange}
-use Rattle.request_loop.specs.Chains.{IsStep, IsChain}
+use Rattle.request_loop.specs.Chains.{IsChain}
 use Rattle.request_loop.specs.Legal.{AreGood, IsLegalSession}
 use Rattle.request_loop.proofs.Legal.{chains_are_legal}
 use Rattle.sessions.specs.Sights.{Sight, Place, known, Looks}
 use Rattle.sessions.specs.Replied.{IsReplied, Gives}
-use Rattle.sessions.proofs.Entered.{unentered, rowless}
 use Rattle.sessions.proofs.Seen.{begins_on, looks_at, known_grows}
 
 module _ {F S : Type 0} (sight : S → Sight F) where
   abbrev pub gives : S → Name → Request → Reply → S → Type 0
   gives old user request reply new = Gives sight old new user request reply
-
-  -- each step is a reply
-  pub step_replied : (old new : S) (user : Name) (line : ℕ) (wish : Wish) (reply : Reply) → IsStep gives old user (record { line = line; wish = wish }) reply new → IsReplied (sight old) (sight new) user line wish reply
-  step_replied old new user line (Makes change) reply (inl given) = given
-  step_replied old new user line (Makes change) reply (inr h) =
-      subst (λ r. IsReplied (sight old) (sight new) user line (Makes change) r) (sym h.reply_is) (rowless (sight old) (sight new) user line change h.load (looks_at (sight old) (sight new) (ap sight h.same)))
-  step_replied old new user line (Asks command) reply given = given
-  step_replied old new user line (IsBad bad) reply told =
-      subst (λ r. IsReplied (sight old) (sight new) user line (IsBad bad) r) (sym told.reply_is)
-      (unentered (sight old) (sight new) user line (IsBad bad) (replies.Bad bad) (looks_at (sight old) (sight new) (ap sight told.same)) (λ floor last low few. refl) refl refl)
 
   -- what a chain keeps
   pub record Keeps (old new : Sight F) : Type 0 where
@@ -54,7 +42,7 @@ module _ {F S : Type 0} (sight : S → Sight F) where
   chain_keeps [] old new user h = looks_keep (sight old) (sight new) (looks_at (sight old) (sight new) (ap sight h))
   chain_keeps (x ∷ log) old new user h =
       keeps_on (sight old) (sight h.0) (sight new)
-      (replied_keeps (sight old) (sight h.0) user x.request.line x.request.wish x.reply (step_replied old h.0 user x.request.line x.request.wish x.reply h.1))
+      (replied_keeps (sight old) (sight h.0) user x.request.line x.request.wish x.reply h.1)
       (chain_keeps log h.0 new (user_after user x.request.wish) h.2)
 
   module _ (first : S) where
@@ -75,8 +63,7 @@ module _ {F S : Type 0} (sight : S → Sight F) where
     fits_known state fits = ap (λ p. history p.began (sight state).seen) fits
 
     pub good : AreGood gives Fits known_at own_at place.may_change place.began.base place.session
-    good old new user request reply fits step =
-        let it = step_replied old new user request.line request.wish reply step in
+    good old new user request reply fits it =
         let then : Fits new = it.place ∙ fits in
         let before : known (sight old) ≡ known_at old = fits_known old fits in
         let after : known (sight new) ≡ known_at new = fits_known new then in

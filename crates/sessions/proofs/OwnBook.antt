@@ -30,7 +30,7 @@ use Rattle.sessions.specs.Ends.{BookEnding}
 use Rattle.sessions.specs.Serving.{setting, Setting, HasAnswered, Serves}
 use Rattle.sessions.specs.Sights.{Sight, Looks}
 use Rattle.sessions.proofs.Ended.{KeepsFronts, ShortLoop, stops, session_keeps, session_stopped, session_served}
-use Rattle.sessions.proofs.FromChain.{gives, step_replied, Fits, known_at, own_at, good, chain_legal, chain_keeps}
+use Rattle.sessions.proofs.FromChain.{gives, Fits, known_at, own_at, good, chain_legal, chain_keeps}
 use Rattle.sessions.proofs.Fronts.{front_legal, front_pinned, front_entries, front_points}
 
 -- an answer's point is the number of entries behind its request -------------------------------------------------------------
@@ -124,7 +124,6 @@ module _ {B : Type 0} (story : B → Story) (faults : B → ℕ) (basis : B → 
 
     alone_there : IsAloneThere (gives sight) (Fits sight first) known_here (own_at sight first) terms.may_change (basis first).base terms.session
     alone_there old new user request reply fits step =
-        let it = step_replied sight old new user request.line request.wish reply step in
         let g = good sight first old new user request reply fits step in
         let grows : known_here new ≡ known_here old ++ accepted_entry terms.session request.line user request.wish reply =
         history_then (basis first) (story old) (story new) (accepted_entry terms.session request.line user request.wish reply) g.entered in

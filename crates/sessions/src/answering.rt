@@ -5,7 +5,7 @@ ghost use Rattle.sessions.specs.Replied.{Gives, Stops};
 use crate::change::reply_to_change;
 use crate::command::reply_to_command;
 use crate::reach::Reach;
-use command_words::{Command, Reply};
+use command_words::{Bad, Command, Reply};
 use plan_schema::{Change, Name};
 use request_loop::{Answers, Why};
 use std::alloc::Global;
@@ -45,6 +45,20 @@ impl<T: Reach> Answers for Session<T> {
         change: Change,
     ) -> Result<Reply, Why> {
         reply_to_change(&self.reach, state, user, line, change)
+    }
+
+    fn faulty(
+        &self,
+        _state: &mut T::State,
+        _line: u64,
+        _user: &Name,
+        bad: Bad,
+    ) -> Result<Reply, Why> {
+        Ok(Reply::Bad(bad))
+    }
+
+    fn wanting(&self, _state: &mut T::State, _line: u64, _user: &Name) -> Result<Reply, Why> {
+        Ok(Reply::Mem)
     }
 
     fn ask(

@@ -6,8 +6,8 @@ use Rattle.request_loop.proofs.hear.hear_command.Goals as goal
 
 pub returns-in-Err-clause-heard : goal.returns-in-Err-clause-heard
 returns-in-Err-clause-heard g c some =
-    told (g.A.Answers.gives c.args.answers.now) (g.A.Answers.stops c.args.answers.now) g.K.Sink.taken c.args.state.now c.args.user.now c.args.rows.now c.args.number (Some c.args.text.now) c.args.page.now.items c.args.sink.now c.in-Err.bad c.going_on.result
-    (sym (c.in-Err.ensures.value c.args.number)) some c.requires.none c.going_on.ensures.reply c.going_on.ensures.last
+    told (g.A.Answers.gives c.args.answers.now) (g.A.Answers.stops c.args.answers.now) g.K.Sink.taken c.args.state.now c.hear_fault.new.state c.args.user.now c.args.rows.now c.args.number (Some c.args.text.now) c.args.page.now.items c.args.sink.now c.in-Err.bad c.hear_fault.result
+    (sym (c.in-Err.ensures.value c.args.number)) some c.requires.none c.hear_fault.ensures.told
 
 pub returns-in-Load-clause-begun : goal.returns-in-Load-clause-begun
 returns-in-Load-clause-begun g c = (Some (begun_rows c.args.number c.in-Load.scenario c.in-Load.count), (c.begin.ensures, let some = c.begin.ensures.some_rows in omega (arith, some)))

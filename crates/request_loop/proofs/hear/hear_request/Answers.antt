@@ -6,5 +6,5 @@ use Rattle.request_loop.proofs.hear.hear_request.Goals as goal
 
 pub returns-in-None-clause-heard : goal.returns-in-None-clause-heard
 returns-in-None-clause-heard g c some =
-    told (g.A.Answers.gives c.args.answers.now) (g.A.Answers.stops c.args.answers.now) g.K.Sink.taken c.args.state.now c.args.user.now c.args.rows.now c.args.number (option_map (λ text. text.now) c.args.line) c.args.page.now.items c.args.sink.now bads.Long c.going_on.result
-    (long_line c.args.number (option_map (λ text. text.now) c.args.line) (ap (option_map (λ text. text.now)) c.in-None.is)) some c.requires.none c.going_on.ensures.reply c.going_on.ensures.last
+    told (g.A.Answers.gives c.args.answers.now) (g.A.Answers.stops c.args.answers.now) g.K.Sink.taken c.args.state.now c.hear_fault.new.state c.args.user.now c.args.rows.now c.args.number (option_map (λ text. text.now) c.args.line) c.args.page.now.items c.args.sink.now bads.Long c.hear_fault.result
+    (long_line c.args.number (option_map (λ text. text.now) c.args.line) (ap (option_map (λ text. text.now)) c.in-None.is)) some c.requires.none c.hear_fault.ensures.told

@@ -2,7 +2,6 @@ use Rattle.std.proofs.Common.{◌∙◌, ◌∷◌, [], Some, None, refl, sym, a
 use Rattle.std.specs.Prelude.{option_map}
 use Rattle.session_rules.specs.Requests.{Line, load_wish}
 use Rattle.request_loop.specs.Reading.{with_row}
-use Rattle.request_loop.specs.Chains.{IsStep}
 use Rattle.request_loop.proofs.KeptRows.{goes_on, less_read, is_full, still_speaks}
 use Rattle.request_loop.proofs.NoReply.{no_reply}
 use Rattle.request_loop.proofs.hear.hear_row.Goals as goal
@@ -43,7 +42,7 @@ returns-in-Ok-clause-heard g c r is few some =
       request = record { line = c.add.new.self.line; wish = load_wish r.scenario r.count (with_row r line).rows };
       completes = record { some = some; all = is_full r line c.add.new.self h c.if-begun.false ∙ ap (λ n. (record { line = n; wish = load_wish r.scenario r.count (with_row r line).rows } ∷ [], None)) (sym h.line) };
       none_left = c.requires.none;
-      step = subst (λ reply. IsStep (g.A.Answers.gives c.args.answers.now) c.args.state.now c.args.user.now (record { line = c.add.new.self.line; wish = load_wish r.scenario r.count (with_row r line).rows }) reply c.load_handed_on.new.state) (sym c.going_on.ensures.reply) taken.0;
+      step = subst (λ reply. g.A.Answers.gives c.args.answers.now c.args.state.now c.args.user.now (record { line = c.add.new.self.line; wish = load_wish r.scenario r.count (with_row r line).rows }) reply c.load_handed_on.new.state) (sym c.going_on.ensures.reply) taken.0;
       user_is = sym (still_speaks c.args.user.now (with_row r line));
       last = c.going_on.ensures.last;
       cleared = taken.1;

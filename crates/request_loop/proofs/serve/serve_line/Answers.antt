@@ -1,9 +1,11 @@
-use Rattle.std.proofs.Common.{◌∙◌, ◌+◌, sym, subst, arith}
+use Rattle.std.proofs.Common.{◌≡◌, ◌∙◌, ◌+◌, sym, subst, arith}
 use Rattle.std.specs.Prelude.{option_map, IfSome, length, ◌≤◌}
 use Rattle.request_loop.proofs.Lines.{shown_is_short}
 use Rattle.byte_lines.specs.Lines.{line_of}
 use Rattle.request_loop.specs.Serving.{SoFar, HasQuit}
 use Rattle.request_loop.proofs.OneLine.{over, passed, answered, quits, unprinted, stopped, counted, an_answer, no_answer, a_stop}
+use Rattle.request_loop.specs.declared.hear.Stop.TheVariants as stop
+use Rattle.request_loop.proofs.NoReply.{no_limit}
 use Rattle.request_loop.proofs.serve.serve_line.Goals as goal
 
 pub hear-heard-requires-clause-short : goal.hear-heard-requires-clause-short
@@ -27,6 +29,12 @@ returns-in-Err-clause-served g c old input left before so =
     (line_of c.args.progress.now.cutter.kept) left so c.hear-heard.new.state c.hear-heard.new.user c.hear-heard.new.rows c.hear-heard.new.rows (c.args.progress.now.lines + 1) c.args.progress.now.requests c.hear-heard.new.user c.hear-heard.new.page.items c.hear-heard.new.sink c.in-Err.stop
     (a_stop (g.A.Answers.gives c.args.answers.now) (g.A.Answers.stops c.args.answers.now) g.K.Sink.taken c.args.state.now c.hear-heard.new.state c.args.progress.now.user c.hear-heard.new.user so.kept c.hear-heard.new.rows (c.args.progress.now.lines + 1) (option_map (λ text. text.now) c.text_of.result) (line_of c.args.progress.now.cutter.kept) (c.text_of.ensures ∙ c.line.ensures)
     c.args.page.now.items c.hear-heard.new.page.items c.args.sink.now c.hear-heard.new.sink c.in-Err.stop (c.in-Err.ensures.heard so.kept so.gathered))
+
+pub returns-in-Err-clause-full : goal.returns-in-Err-clause-full
+returns-in-Err-clause-full g c is =
+    let same : c.in-Err.stop ≡ stop.Limit = cc in
+    absurd (no_limit (g.A.Answers.gives c.args.answers.now) (g.A.Answers.stops c.args.answers.now) g.K.Sink.taken c.args.state.now c.hear-heard.new.state c.args.progress.now.user c.hear-heard.new.user c.requires.rows.0 c.hear-heard.new.rows (c.args.progress.now.lines + 1, option_map (λ text. text.now) c.text_of.result)
+    c.args.page.now.items c.hear-heard.new.page.items c.args.sink.now c.hear-heard.new.sink c.in-Err.stop (c.in-Err.ensures.heard c.requires.rows.0 c.requires.rows.1) same)
 
 pub returns-in-Ok-clause-served : goal.returns-in-Ok-clause-served
 returns-in-Ok-clause-served g c old input left before so =

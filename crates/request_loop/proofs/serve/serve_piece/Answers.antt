@@ -12,6 +12,9 @@ returns-in-Err-clause-served g c old input rest before so =
     (completed c.loop-done.progress.cutter.kept c.feed-count.new.self.kept c.args.piece.now _ rest c.loop-done.done c.feed-count.result.0 (from_place c.args.piece.now c.loop-done.done) (c.feed-count.ensures.complete c.if-is_complete.true))
     (c.loop-done.invariant.served old input rest before so))
 
+pub returns-in-Err-clause-full : goal.returns-in-Err-clause-full
+returns-in-Err-clause-full g c is = let f = c.in-Err.ensures.full is in let n = c.loop-done.invariant.counted in omega (arith, f, n)
+
 pub loop-done-preserved-in_default : goal.loop-done-preserved-in_default
 loop-done-preserved-in_default g c =
     let long = length-drop c.loop-done.done c.args.piece.now in

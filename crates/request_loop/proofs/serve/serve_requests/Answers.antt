@@ -1,10 +1,11 @@
-use Rattle.std.proofs.Common.{◌∙◌, ◌≡◌, ◌++◌, [], None, Some, take, sym, ap, subst, arith, refl, rules, length-append, append_assoc}
+use Rattle.std.proofs.Common.{◌∙◌, ◌≡◌, ◌≤◌, ◌++◌, [], None, Some, Err, take, length, sym, ap, subst, arith, refl, rules, length-append, append_assoc, append-nil}
 use Rattle.plan_schema.proofs.Writes.{extended_nil}
 use Rattle.byte_lines.specs.declared.rounds.Served.TheVariants as ends
-use Rattle.request_loop.specs.Serving.{Going, SoFar}
-use Rattle.byte_lines.specs.Lines.{lines_after}
+use Rattle.request_loop.specs.Serving.{Going, SoFar, line_limit}
+use Rattle.byte_lines.specs.Lines.{lines_after, lines_from}
 use Rattle.request_loop.proofs.Going.{not_nameless, is_guest, begin, written, ends_short, no_sink_end, piece_more, behind_piece, bytes_behind, lines_behind, at_end}
 use Rattle.request_loop.proofs.Exits.{by_last, by_stop, over_bytes, quit_within, last_within}
+use Rattle.request_loop.proofs.Limits.{lines_in_time}
 use Rattle.request_loop.proofs.serve.serve_requests.Goals as goal
 
 pub unreachable-requires : goal.unreachable-requires
@@ -54,7 +55,8 @@ returns-then-count-eq0-clause-served g c =
           (c.serve_rest-end.ensures.served c.args.state.now (going.front ++ []) (g.K.Sink.taken c.args.sink.now) (subst (λ p. SoFar (g.A.Answers.gives c.args.answers.now) (g.A.Answers.stops c.args.answers.now) c.args.state.now c.reads.state (going.front ++ []) (lines_after c.reads.progress.cutter.kept []) c.reads.progress.lines c.reads.progress.requests c.reads.progress.user c.reads.progress.rows p (g.K.Sink.taken c.args.sink.now) (g.K.Sink.taken c.flush.new.sink)) (sym c.in_default-flush.ensures.empty) (going.so_far []))) c.ended.ensures.text
           (let l = length-append going.front [] in let b = going.bytes in omega (arith, l, b))
           (λ is quit. last_within (g.A.Answers.gives c.args.answers.now) (g.A.Answers.stops c.args.answers.now) c.args.state.now c.reads.state c.serve_rest-end.new.state (going.front ++ []) c.reads.progress.cutter.kept c.reads.progress.lines c.reads.progress.requests c.reads.progress.user c.reads.progress.rows [] (g.K.Sink.taken c.args.sink.now) (g.K.Sink.taken c.flush.new.sink)
-          c.serve_rest-end.new.progress.lines c.serve_rest-end.new.progress.requests c.serve_rest-end.new.page.items (g.K.Sink.taken c.serve_rest-end.new.sink) (let l = length-append going.front [] in let b = going.bytes in omega (arith, l, b)) (going.so_far []) (c.serve_rest-end.ensures.quit is) quit);
+          c.serve_rest-end.new.progress.lines c.serve_rest-end.new.progress.requests c.serve_rest-end.new.page.items (g.K.Sink.taken c.serve_rest-end.new.sink) (let l = length-append going.front [] in let b = going.bytes in omega (arith, l, b)) (going.so_far []) (c.serve_rest-end.ensures.quit is) quit)
+          (λ is. subst (λ n. line_limit ≤ n) (sym (ap (λ bytes. length (lines_from (Some []) bytes).0) (append-nil going.front) ∙ going.counted)) (c.serve_rest-end.ensures.full is));
     }
 
 pub returns-in-Err-served-clause-served : goal.returns-in-Err-served-clause-served
@@ -72,7 +74,9 @@ returns-in-Err-served-clause-served g c =
           c.in-Err-served.stop (lines_after c.serve_piece-served.new.progress.cutter.kept rest.0) c.serve_piece-served.new.progress.lines c.serve_piece-served.new.progress.requests c.serve_piece-served.new.progress.user c.serve_piece-served.new.progress.rows c.ended-in-Err-served.result
           (c.in-Err-served.ensures.served c.args.state.now (going.front ++ (take c.min-within.result c.read-in-reads.new.into ++ rest.0)) rest.0 (g.K.Sink.taken c.args.sink.now) (subst (λ p. SoFar (g.A.Answers.gives c.args.answers.now) (g.A.Answers.stops c.args.answers.now) c.args.state.now c.reads.state (going.front ++ (take c.min-within.result c.read-in-reads.new.into ++ rest.0)) (lines_after c.reads.progress.cutter.kept (take c.min-within.result c.read-in-reads.new.into ++ rest.0)) c.reads.progress.lines c.reads.progress.requests c.reads.progress.user c.reads.progress.rows p (g.K.Sink.taken c.args.sink.now) (g.K.Sink.taken c.flush.new.sink)) (sym c.in_default-flush.ensures.empty) (going.so_far (take c.min-within.result c.read-in-reads.new.into ++ rest.0)))) c.ended-in-Err-served.ensures.text
           (λ is. quit_within (g.A.Answers.gives c.args.answers.now) (g.A.Answers.stops c.args.answers.now) g.K.Sink.taken c.args.state.now c.serve_piece-served.new.state (going.front ++ (take c.min-within.result c.read-in-reads.new.into ++ rest.0)) c.serve_piece-served.new.page.items (g.K.Sink.taken c.args.sink.now) c.serve_piece-served.new.sink c.ended-in-Err-served.new.sink
-          (going.front ++ take c.min-within.result c.read-in-reads.new.into) rest.0 c.serve_piece-served.new.progress.lines c.serve_piece-served.new.progress.requests (sym (append_assoc going.front (take c.min-within.result c.read-in-reads.new.into) rest.0)) (let b = bytes in omega (arith, b)) (let n = lines in let few = c.in-Err-served.ensures.most in omega (arith, n, few)));
+          (going.front ++ take c.min-within.result c.read-in-reads.new.into) rest.0 c.serve_piece-served.new.progress.lines c.serve_piece-served.new.progress.requests (sym (append_assoc going.front (take c.min-within.result c.read-in-reads.new.into) rest.0)) (let b = bytes in omega (arith, b)) (let n = lines in let few = c.in-Err-served.ensures.most in omega (arith, n, few)))
+          (λ is. lines_in_time (going.front ++ (take c.min-within.result c.read-in-reads.new.into ++ rest.0)) (going.front ++ take c.min-within.result c.read-in-reads.new.into) rest.0 (sym (append_assoc going.front (take c.min-within.result c.read-in-reads.new.into) rest.0)) line_limit
+          (let b = bytes in omega (arith, b)) (let n = lines in let full = c.in-Err-served.ensures.full (ap Err is) in omega (arith, n, full)));
     }
 
 pub returns-then-within-count-clause-served : goal.returns-then-within-count-clause-served

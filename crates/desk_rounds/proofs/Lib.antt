@@ -5,3 +5,11 @@ pub mod Fours
 pub mod Joins
 pub mod Meets
 pub mod OneRound
+pub mod Alls
+pub mod Splits
+pub mod AllJoined
+pub mod RunSteps
+pub mod RunsOver
+pub mod RunsWhole
+pub mod DesksTold
+pub mod RunsTold

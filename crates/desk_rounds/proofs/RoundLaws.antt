@@ -22,11 +22,12 @@ use Rattle.plan_book.specs.declared.ground.Ground.{Ground}
 use Rattle.plan_book.specs.Books.{Story, history, entries_in, story_of, point_of}
 use Rattle.desk_rounds.specs.Rounds.{Place, desks_of, IsPlace, ArePlaces, AreServed, AreKeptOf, AreKeptIn, RoundsAreLegal}
 use Rattle.sessions.proofs.Seen.{begins_on, rising_to}
+use Rattle.desk_rounds.proofs.Alls.{all_both}
 use Rattle.desk_rounds.proofs.Tally.{count-cons, count-append, IsHit, exact}
 
 -- lists ------------------------------------------------------------------------------------------------------------------------------
 
-of_both : (k : ℕ) (xs ys : Story) → story.entries_of k (xs ++ ys) ≡ story.entries_of k xs ++ story.entries_of k ys
+pub of_both : (k : ℕ) (xs ys : Story) → story.entries_of k (xs ++ ys) ≡ story.entries_of k xs ++ story.entries_of k ys
 of_both k xs ys = filter-append (λ e. e.0 == k) xs ys
 
 first_none : {A : Type 0} (xs ys : List A) → xs ++ ys ≡ [] → xs ≡ []
@@ -38,7 +39,7 @@ second_none [] ys h = h
 second_none (x ∷ xs) ys h = cc
 
 -- where the whole has no more elements than its front, none stands behind it
-rest_none : {A : Type 0} (xs ys : List A) → xs ++ ys ≡ xs → ys ≡ []
+pub rest_none : {A : Type 0} (xs ys : List A) → xs ++ ys ≡ xs → ys ≡ []
 rest_none [] ys h = h
 rest_none (x ∷ xs) ys h = rest_none xs ys (let same : x ∷ (xs ++ ys) ≡ x ∷ xs = h in tails x x (xs ++ ys) xs same)
   where
@@ -46,20 +47,20 @@ rest_none (x ∷ xs) ys h = rest_none xs ys (let same : x ∷ (xs ++ ys) ≡ x �
     tails x y xs ys h = cc
 
 -- the front of a story without entries of a number has none
-front_none : (k : ℕ) (front whole : Story) → Begins front whole → story.entries_of k whole ≡ [] → story.entries_of k front ≡ []
+pub front_none : (k : ℕ) (front whole : Story) → Begins front whole → story.entries_of k whole ≡ [] → story.entries_of k front ≡ []
 front_none k front whole begins none = first_none (story.entries_of k front) (story.entries_of k begins.0) (sym (of_both k front begins.0) ∙ ap (story.entries_of k) (sym begins.1) ∙ none)
 
 -- numbers and sessions -----------------------------------------------------------------------------------------------------------------
 
 -- each entry stands in a story under its session
-abbrev AreOwn : Story → Type 0
+abbrev pub AreOwn : Story → Type 0
 AreOwn s = AllByRecursion (λ e. e.0 ≡ e.1.session) s
 
-own_of_entries : (es : List Entry) → AreOwn (story_of es)
+pub own_of_entries : (es : List Entry) → AreOwn (story_of es)
 own_of_entries [] = tt
 own_of_entries (e ∷ es) = (refl, own_of_entries es)
 
-all_own : (s : Story) → ((k : ℕ) → AreOwn (story.entries_of k s)) → AreOwn s
+pub all_own : (s : Story) → ((k : ℕ) → AreOwn (story.entries_of k s)) → AreOwn s
 all_own [] h = tt
 all_own (e ∷ s) h =
     let here : (e.0 == e.0) ≡ true = grind (arith, nat_tests) in
@@ -137,10 +138,6 @@ own_point base h session floor last user line (Makes change) replies.Mem it = tt
 own_point base h session floor last user line (Asks command) reply it = tt
 own_point base h session floor last user line (IsBad bad) reply it = tt
 
-all_both : {A : Type 0} (P : A → Type 0) (xs ys : List A) → AllByRecursion P xs → AllByRecursion P ys → AllByRecursion P (xs ++ ys)
-all_both P [] ys h k = k
-all_both P (x ∷ xs) ys h k = (h.0, all_both P xs ys h.1 k)
-
 own_points : (base : Contents) (h : List Entry) (session floor last : ℕ) (user : Name) (qs : List Request) (rs : List Reply) → AreReplies true base h session floor last user qs rs → AllByRecursion (IsOwnPoint h session floor) (accepted_points qs rs)
 own_points base h session floor last user [] [] it = tt
 own_points base h session floor last user (q ∷ qs) (r ∷ rs) it =
@@ -201,7 +198,7 @@ there (x ∷ s) (suc k) e h none = there s k e h (tail (x.0 == e.0) none)
     tail false never = never
 
 -- where the whole has as many entries of a number as its front, so has what stands between
-squeeze : (k : ℕ) (a b c : Story) → Begins a b → Begins b c → story.entries_of k c ≡ story.entries_of k a → story.entries_of k c ≡ story.entries_of k b
+pub squeeze : (k : ℕ) (a b c : Story) → Begins a b → Begins b c → story.entries_of k c ≡ story.entries_of k a → story.entries_of k c ≡ story.entries_of k b
 squeeze k a b c h g same =
     let c_is : story.entries_of k c ≡ story.entries_of k b ++ story.entries_of k g.0 = ap (story.entries_of k) g.1 ∙ of_both k b g.0 in
     let b_is : story.entries_of k b ≡ story.entries_of k a ++ story.entries_of k h.0 = ap (story.entries_of k) h.1 ∙ of_both k a h.0 in
@@ -210,16 +207,16 @@ squeeze k a b c h g same =
     let none : story.entries_of k g.0 ≡ [] = second_none (story.entries_of k h.0) (story.entries_of k g.0) (rest_none (story.entries_of k a) (story.entries_of k h.0 ++ story.entries_of k g.0) all) in
     c_is ∙ ap (λ xs. story.entries_of k b ++ xs) none ∙ append-nil (story.entries_of k b)
 
-begins_length : (a b : Story) → Begins a b → length a ≤ length b
+pub begins_length : (a b : Story) → Begins a b → length a ≤ length b
 begins_length a b h = let all = ap length h.1 ∙ length-append a h.0 in omega (arith, all)
 
 -- one desk -----------------------------------------------------------------------------------------------------------------------------
 
 module _ (began : Ground) (whole : Story) (own : AreOwn whole) where
-  abbrev early : ℕ
+  abbrev pub early : ℕ
   early = length began.earlier
 
-  points : (s : Story) → point_of began s ≡ early + length s
+  pub points : (s : Story) → point_of began s ≡ early + length s
   points s = length-append began.earlier (entries_in s) ∙ ap (λ n. early + n) (length-map s (λ told. told.1))
 
   module _ (number : ℕ) (before after : Story) (place : Place) (is : IsPlace began number before after place) (ends : Begins after whole) (kept : story.entries_of number whole ≡ story.entries_of number place.then) where
@@ -290,7 +287,7 @@ module _ (began : Ground) (whole : Story) (own : AreOwn whole) where
         round_desks places (number + 1) before after floor ceiling are.1 ends kept.1 low high,
       )
 
-  either_side : (k n : ℕ) → (k < n) ⊎ (n ≤ k)
+  pub either_side : (k n : ℕ) → (k < n) ⊎ (n ≤ k)
   either_side k n = elim (cases_Bool (nat_lt k n)) [ inl a ↦ inl (grind (arith, nat_tests)) | inr b ↦ inr (grind (arith, nat_tests)) ]
 
   first_or_more : (k n : ℕ) → n ≤ k → (k ≡ n) ⊎ (n + 1 ≤ k)
@@ -321,7 +318,7 @@ module _ (began : Ground) (whole : Story) (own : AreOwn whole) where
       by_side (inr more) rest = front_none k before h.0 h.1 (rest more)
 
   -- entries of earlier numbers stand in what was seen before a round
-  abbrev IsSettled : ℕ → Story → Type 0
+  abbrev pub IsSettled : ℕ → Story → Type 0
   IsSettled number before = (k : ℕ) → k < number → story.entries_of k whole ≡ story.entries_of k before
 
   settled_next : (places : List Place) (number : ℕ) (before after : Story) → Begins before after → Begins after whole → ArePlaces began number before after places → AreKeptOf began whole number places → IsSettled number before → IsSettled (number + length places) after
@@ -331,7 +328,7 @@ module _ (began : Ground) (whole : Story) (own : AreOwn whole) where
       by_side (inl less) = squeeze k before after whole first rest (settled k less)
       by_side (inr more) = each_place (λ n. story.entries_of n whole ≡ story.entries_of n after) places number before after are kept (λ n place is same. squeeze n place.then after whole is.ends rest same) k more low
 
-  floor_low : (number : ℕ) (before : Story) → Begins before whole → IsSettled number before → early + entries_of (entries_in whole) 0 number ≤ early + length before
+  pub floor_low : (number : ℕ) (before : Story) → Begins before whole → IsSettled number before → early + entries_of (entries_in whole) 0 number ≤ early + length before
   floor_low number before begins settled =
       let none : (k : ℕ) → k < number → story.entries_of k begins.0 ≡ [] = λ k less. rest_none (story.entries_of k before) (story.entries_of k begins.0) (sym (of_both k before begins.0) ∙ ap (story.entries_of k) (sym begins.1) ∙ settled k less) in
       let all : below number whole ≡ below number before + below number begins.0 = ap (below number) begins.1 ∙ count-append (λ e. nat_lt e.0 number) before begins.0 in
@@ -340,7 +337,7 @@ module _ (began : Ground) (whole : Story) (own : AreOwn whole) where
       let is = below_is whole number own in
       omega (arith, all, rest, few, is)
 
-  ceiling_high : (number : ℕ) (after : Story) → Begins after whole → ((k : ℕ) → number ≤ k → story.entries_of k after ≡ []) → early + length after ≤ early + entries_of (entries_in whole) 0 number
+  pub ceiling_high : (number : ℕ) (after : Story) → Begins after whole → ((k : ℕ) → number ≤ k → story.entries_of k after ≡ []) → early + length after ≤ early + entries_of (entries_in whole) 0 number
   ceiling_high number after begins none =
       let all : below number whole ≡ below number after + below number begins.0 = ap (below number) begins.1 ∙ count-append (λ e. nat_lt e.0 number) after begins.0 in
       let full = none_higher after number none in

@@ -4,3 +4,6 @@ pub mod PassLists
 pub mod DesksServed
 pub mod RoundsRun
 pub mod Two
+pub mod RunFrom
+pub mod RunOver
+pub mod Told

@@ -104,7 +104,9 @@ impl<'a, B: PlanBook, S: Source, K: Sink, R: Wait> Serves<Desk<S, K>> for AtOffi
 
     ghost may = { λ at pass. IsReady at.office.now pass };
 
-    ghost serves = { λ at desk pass desk_then pass_then. IsDeskServed S.left S.faults S.label K.taken K.faults K.label at.office.now desk pass desk_then pass_then };
+    ghost serves = { λ at desk pass desk_then pass_then.
+        IsDeskServed S.left S.faults S.label K.taken K.faults K.label at.office.now
+        desk pass desk_then pass_then };
 
     fn serve(&self, desk: &mut Desk<S, K>, pass: &mut Pass<B>) {
         let served = serve(

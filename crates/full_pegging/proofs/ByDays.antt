@@ -94,7 +94,7 @@ each_unit_ends_once c n = by_plan (plan c n) refl
     by_plan (Some known) e = sym (units_stay c (longest_chain c) n (ap is_some e))
 
 -- how many units a day has
-day_has : (ends : Name → List End) (c : Contents) (n : Name) (x : Lists) (t : ℕ) → plan c n ≡ Some (Planned x) → length (day_ends ends (plan c) c n t) ≡ slice_index x.planned t
+pub day_has : (ends : Name → List End) (c : Contents) (n : Name) (x : Lists) (t : ℕ) → plan c n ≡ Some (Planned x) → length (day_ends ends (plan c) c n t) ≡ slice_index x.planned t
 day_has ends c n x t e =
     ap (λ o. length (ends_on n (stock_in (record_at c (keys.Stock n))) o (demand_ends ends (plan c) c n) t)) e
     ∙ length-map-range_with_len (λ unit. end_at n (demand_ends ends (plan c) c n) ((stock_in (record_at c (keys.Stock n)) + sum (take (suc t) x.sched)) + (sum (take t x.planned) + unit))) 0 (slice_index x.planned t)

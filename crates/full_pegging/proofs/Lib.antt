@@ -6,3 +6,14 @@ mod Spreading
 mod InARow
 mod MeetingRows
 mod Pegged
+mod Stretches
+mod Waiting
+mod Landing
+mod PlanFacts
+mod Counts
+mod Aiming
+mod Sharing
+mod Walked
+mod Following
+mod Named
+mod TraceEnds

@@ -45,7 +45,7 @@ range_at (suc t) (suc n) a low =
     ap (λ ns. a ∷ ns) (range_at t n (a + 1) less ∙ λ i. range_with_len (a + 1) t ++ place i ∷ range_with_len (place i + 1) (many i))
 
 module _ (ends : Name → List End) (plans : Name → Option Known) (c : Contents) (n : Name) where
-  peg_length : (t : ℕ) (peg : Peg) → length (peg_ends ends plans c n t peg) ≡ peg_qty peg
+  pub peg_length : (t : ℕ) (peg : Peg) → length (peg_ends ends plans c n t peg) ≡ peg_qty peg
   peg_length t (FromDemand order qty) = length-map-range_with_len (λ unit. AtDemand n order) 0 qty
   peg_length t (FromParent p qty) = length-map-range_with_len (λ unit. end_at p (ends p) (sum (take t (released (plans p))) + unit / per_in (record_at c (keys.Bill p n)))) 0 qty
 

@@ -92,7 +92,6 @@ fn count_below(units: &Units, number: u64) -> u64
 
 /// Some units up to a number, and those from it on.
 pub fn split_at(units: &Units, number: u64) -> (Units, Units)
-    requires { units.now.first + units.now.many < 2 ^ 64 }
     ensures below { result.0.many ≡ min units.now.many (number - units.now.first) }
     ensures first { result.0.first ≡ units.now.first }
     ensures behind { result.1.first ≡ units.now.first + result.0.many }

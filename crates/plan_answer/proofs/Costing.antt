@@ -1,8 +1,7 @@
 -- What is planned of a part with least-cost lots is the best list for what the part falls short of.
-use Rattle.std.proofs.Common.{inl, ◌≡◌, ℕ, zero, suc, ◌+◌, ◌<◌, ◌≤◌, List, [], ◌∷◌, length, map, refl, sym, ◌∙◌, ap, subst, arith, Bool, true, false, cond}
+use Rattle.std.proofs.Common.{inl, ◌≡◌, ℕ, zero, suc, ◌+◌, ◌<◌, ◌≤◌, List, [], ◌∷◌, length, refl, sym, ◌∙◌, ap, subst, arith, Bool, true, false, cond}
 use Rattle.std.proofs.lemmas.List.Elements.{All-from_recursion}
 use Rattle.std.specs.Prelude.{Option, Some, None, All}
-use Rattle.std.specs.Option.{option_map}
 use Rattle.std.specs.List.{AllByRecursion, list_all, range_with_len}
 use Rattle.plan_schema.specs.declared.name.Name.{Name}
 use Rattle.plan_schema.specs.declared.key.Lot.{Lot}
@@ -17,14 +16,13 @@ use Rattle.plan_schema.specs.Contents.{Contents, record_at, cell_rows}
 use Rattle.planning_rules.specs.BestLots.{needs, best}
 use Rattle.planning_rules.specs.Bills.{parents}
 use Rattle.planning_rules.specs.Days.{start_of, days_of, horizon_of, works}
-use Rattle.planning_rules.specs.Netting.{Input, Lists, limit, planned_of, outcome_from, is_too_large}
+use Rattle.planning_rules.specs.Netting.{Input, Lists, planned_of, outcome_from, is_too_large}
 use Rattle.planning_rules.specs.Plan.{Known, Planned, Large, has_outcome, gross_of, sched_of, has_calendar, stock_in, input_of, known_from, plan}
 use Rattle.planning_rules.proofs.PlanLaws.{plan_is_step}
 use Rattle.planning_rules.proofs.PlannedBest.{planned_is_best}
 use Rattle.planning_rules.specs.Refused.{in_reach}
 use Rattle.planning_rules.proofs.Membership.{contained_in}
 use Rattle.query_rules.specs.Queries.{safety_in}
-use Rattle.record_versions.specs.declared.version.VersionId.{VersionId}
 use Rattle.walk_rules.specs.Cells.{Cells, records, held}
 use Rattle.walk_rules.proofs.Local.{record_here}
 use Rattle.explosion.specs.Sums.{sched_by}
@@ -38,9 +36,9 @@ use Rattle.lot_optimal.specs.Costs.{rows_of}
 use Rattle.lot_optimal.proofs.Filled.{length_needs}
 use Rattle.session_rules.specs.Answers.{lists_of, costs_lines}
 use Rattle.session_rules.specs.Costs.{lot_costs, part_costs, unplanned_shortages, lines_of_costs}
-use Rattle.plan_answer.specs.Planned.{ArePlanned}
-use Rattle.plan_answer.specs.Held.{rows_held}
-use Rattle.plan_answer.proofs.OwnPegs.{map_long, plan_gross}
+use Rattle.part_pegs.specs.Planned.{ArePlanned}
+use Rattle.part_pegs.specs.Held.{rows_held}
+use Rattle.part_pegs.proofs.OwnPegs.{map_long, plan_gross, rows_found}
 
 -- the lists of a part that is planned -----------------------------------------------------------------------------------------------
 
@@ -133,14 +131,10 @@ rows_in_days setup hold wants orders most h = All-from_recursion (λ (row : Cost
 
 -- a part that is planned, by its cell -------------------------------------------------------------------------------------------------
 
-found_rows : (o : Option (VersionId × Contents)) (rows : Contents) → option_map (λ cell. cell.1) o ≡ Some rows → (id : VersionId) × (o ≡ Some (id, rows))
-found_rows None rows h = absurd (let never : ⊥ = cc in never)
-found_rows (Some (id, own)) rows h = (id, cc)
-
 module _ (wanted : Wanted) (cells : Cells) (n : Name) (plans : Name → Option Known) (job : IsJob wanted cells) (planned : ArePlanned (records cells) (n ∷ []) plans)
     (rows : Contents) (there : rows_held cells (names.Part n) ≡ Some rows) where
   pub own_cell : HeldCell cells (names.Part n) rows
-  own_cell = let found = found_rows (held cells (names.Part n)) rows there in held_cell wanted cells (names.Part n) found.0 rows job found.1
+  own_cell = let found = rows_found (held cells (names.Part n)) rows there in held_cell wanted cells (names.Part n) found.0 rows job found.1
 
   own_row : (key : Key) → cell_rows (records cells) (cell_of key) ≡ rows → record_at rows key ≡ record_at (records cells) key
   own_row key is = ap (λ rs. record_at rs key) (sym is) ∙ record_here (records cells) key

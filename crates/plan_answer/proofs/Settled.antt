@@ -14,7 +14,7 @@ use Rattle.planning_rules.proofs.Membership.{IsIn, in_contained, all_at}
 use Rattle.planning_rules.proofs.LeastNames.{least_found}
 use Rattle.plan_jobs.proofs.Gathering.{parent_reached}
 use Rattle.walk_rules.specs.Walks.{Parts, names_of, known_at, IsSettled, is_known, is_blocked}
-use Rattle.plan_answer.specs.Planned.{ArePlanned}
+use Rattle.part_pegs.specs.Planned.{ArePlanned}
 use Rattle.plan_answer.specs.Settled.{AreAllSettled}
 
 -- where none of some refusals applies, the last doesn't

@@ -1,5 +1,5 @@
 //! Answers about what the orders of a part with least-cost lots cost, where the plans are known.
-ghost use Rattle.std.specs.Prelude.{◌≡◌, ◌+◌, ◌-◌, ◌≤◌, ◌++◌, ◌<◌, true, Some, ◌∷◌, [], length, map, decimal, All};
+ghost use Rattle.std.specs.Prelude.{◌≡◌, ◌+◌, ◌≤◌, ◌++◌, ◌<◌, true, Some, ◌∷◌, [], length, map, decimal, All};
 ghost use Rattle.std.specs.Prelude.{IfOk, IfSome};
 ghost use Rattle.arrayvec.specs.ArrayVec.{array_vec_len};
 ghost use Rattle.plan_schema.specs.declared.key.Key.TheVariants as keys;
@@ -13,19 +13,19 @@ ghost use Rattle.session_rules.specs.Costs as spec;
 ghost use Rattle.session_rules.specs.Answers.{costs_refusal, costs_lines, query_reply};
 ghost use Rattle.walk_rules.specs.Cells.{records};
 ghost use Rattle.plan_jobs.specs.Jobs.{IsJob, wants_plan};
-ghost use Rattle.plan_answer.specs.Planned.{ArePlanned};
-ghost use Rattle.plan_answer.specs.Held.{rows_held};
+ghost use Rattle.part_pegs.specs.Planned.{ArePlanned};
+ghost use Rattle.part_pegs.specs.Held.{rows_held};
 
 use crate::lines::push_date;
-use crate::planned::{horizon, outcome_of};
 use command_words::{Lines, Reply};
 use explosion::sched;
 use itoa::Buffer;
 use lot_optimal::{CostRow, Costs, costs};
 use netting::fill_short;
+use part_pegs::{horizon, outcome_of, part_cell};
 use part_steps::{record_in, stock_in};
 use plan_jobs::Job;
-use plan_schema::{CellName, Day, Key, Lot, Name, Outcome, Qty, Record, Refusal};
+use plan_schema::{Day, Key, Lot, Name, Outcome, Qty, Record, Refusal};
 use query_rows::Plans;
 use record_versions::Cell;
 use row_text::{RowText, push_number, push_word};
@@ -145,18 +145,6 @@ fn safety_of(cell: &Cell, part: &Name) -> Qty
     match record_in(cell, &Key::Part(*part)) {
         Some(Record::Part { safety, .. }) => *safety,
         _ => 0,
-    }
-}
-
-/// The cell of a part that is planned.
-fn part_cell<'a, P: Plans>(job: &'a Job, plans: &P, part: &Name) -> &'a Cell
-    requires job { IsJob job.now.wanted job.now.cells }
-    requires planned { ArePlanned (records job.now.cells) (part.now ∷ []) (P.plans plans.now) }
-    ensures { rows_held job.now.cells (names.Part part.now) ≡ Some result.now }
-{
-    match job.cells.get(&CellName::Part(*part)) {
-        Some((_id, cell)) => cell,
-        None => unreachable!(),
     }
 }
 

@@ -1,22 +1,20 @@
 //! Answers about pegs, where the plans are known.
-ghost use Rattle.std.specs.Prelude.{◌≡◌, ◌+◌, ◌-◌, ◌≤◌, ◌<◌, ◌++◌, ◌||◌, nat_lt, nat_le, true, false, Some, None};
-ghost use Rattle.std.specs.Prelude.{◌∷◌, [], IfOk, OnOk, MatchOption, map};
+ghost use Rattle.std.specs.Prelude.{◌≡◌, ◌+◌, ◌-◌, ◌≤◌, ◌<◌, ◌||◌, nat_lt, nat_le, true, false, Some, None};
+ghost use Rattle.std.specs.Prelude.{◌∷◌, [], IfOk, MatchOption, map};
 ghost use Rattle.planning_rules.specs.Days.{start_of, days_of};
 ghost use Rattle.planning_rules.specs.Pegs.{pegs, no_day as no_day_of};
 ghost use Rattle.session_rules.specs.Answers.{peg_line, query_reply};
 ghost use Rattle.walk_rules.specs.Cells.{records};
 ghost use Rattle.plan_jobs.specs.Jobs.{IsJob, wants_plan};
-ghost use Rattle.plan_answer.specs.Planned.{ArePlanned};
-ghost use Rattle.plan_answer.specs.ParentLists.{parent_lists, parents_are_planned};
+ghost use Rattle.part_pegs.specs.Planned.{ArePlanned};
 
 use crate::lines::peg_lines;
-use crate::planned::{horizon, outcome_of};
 use command_words::{Lines, Reply};
+use part_pegs::{horizon, parent_releases, part_cell};
 use pegging::peg;
 use plan_jobs::Job;
-use plan_schema::{CellName, Day, Key, Name, Record, Refusal, Release};
+use plan_schema::{Day, Name, Refusal};
 use query_rows::Plans;
-use record_versions::Cell;
 use std::alloc::{AllocError, Global};
 
 /// The day of a horizon that a date is, if it is one.
@@ -31,39 +29,6 @@ fn day_in(start: &Day, days: u16, date: &Day) -> Option<u16>
         return None;
     }
     Some((date - start) as u16)
-}
-
-/// Adds the release list of the parent of a row, if that is a bill.
-fn add_release<P: Plans>(
-    releases: &mut Vec<Release>,
-    key: &Key,
-    value: &Record,
-    plans: &P,
-) -> Result<(), AllocError>
-    requires { parents_are_planned (P.plans plans.now) ((key.now, value.now) ∷ []) ≡ true }
-    ensures { OnOk result (releases.new.items ≡ releases.old.items
-        ++ parent_lists (P.plans plans.now) ((key.now, value.now) ∷ [])) }
-{
-    if let (Key::Bill { parent, .. }, Record::Bill { .. }) = (key, value) {
-        releases.push(outcome_of(plans, parent).release.share()?)?;
-    }
-    Ok(())
-}
-
-/// The release lists of the parents in the bills of a cell, in the order of the bills.
-fn parent_releases<P: Plans>(
-    alloc: Global,
-    cell: &Cell,
-    plans: &P,
-) -> Result<Vec<Release>, AllocError>
-    requires { parents_are_planned (P.plans plans.now) cell.now ≡ true }
-    ensures { IfOk result (λ releases. releases.items ≡ parent_lists (P.plans plans.now) cell.now) }
-{
-    let mut releases = Vec::new(alloc);
-    for (key, value) in cell.iter() {
-        add_release(&mut releases, &key, &value, plans)?;
-    }
-    Ok(releases)
 }
 
 /// The lines of the pegs of a part on a day of the horizon.
@@ -85,9 +50,7 @@ fn lines_of_day<P: Plans>(
     ensures { let c = records job.now.cells in
         IfOk result (λ lines. lines ≡ map peg_line (pegs c part.now at)) }
 {
-    let Some((_id, cell)) = job.cells.get(&CellName::Part(*part)) else {
-        unreachable!()
-    };
+    let cell = part_cell(job, plans, part);
     let releases = parent_releases(alloc, cell, plans)?;
     let pegs = peg(alloc, cell, start, days, at, releases.as_slice())?;
     peg_lines(alloc, pegs.as_slice())

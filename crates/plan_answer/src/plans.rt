@@ -3,7 +3,8 @@ ghost use Rattle.std.specs.Prelude.{◌≡◌, true, IfOk};
 ghost use Rattle.walk_rules.specs.Cells.{records};
 ghost use Rattle.plan_jobs.specs.Jobs.{IsJob, asked_by};
 ghost use Rattle.plan_answer.specs.Asks.{question, asks_for_plan};
-ghost use Rattle.plan_answer.specs.Planned.{wants_of, ArePlanned};
+ghost use Rattle.plan_answer.specs.Planned.{wants_of};
+ghost use Rattle.part_pegs.specs.Planned.{ArePlanned};
 ghost use Rattle.plan_answer.specs.Replies.{reply_of};
 
 use crate::ask::Ask;

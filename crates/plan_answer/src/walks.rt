@@ -11,26 +11,10 @@ ghost use Rattle.plan_answer.specs.Settled.{AreAllSettled};
 use crate::ask::Ask;
 use crate::plans::from_plans;
 use command_words::Reply;
-use plan_schema::{Known, Name, Refusal};
+use part_pegs::WalkPlans;
+use plan_schema::Refusal;
 use plan_walk::Walk;
-use query_rows::Plans;
 use std::alloc::{AllocError, Global};
-
-/// The plans that a walk knows.
-#[derive(Clone, Copy)]
-struct WalkPlans<'a> {
-    walk: &'a Walk,
-}
-
-impl Plans for WalkPlans<'_> {
-    ghost use Rattle.walk_rules.specs.Walks.{known_at};
-
-    ghost plans = { λ plans part. known_at plans.walk.now.parts part };
-
-    fn known(&self, part: &Name) -> Option<&Known> {
-        self.walk.known(part)
-    }
-}
 
 /// The reply to a question that asks for plans, at its job's point, from a walk all of whose parts are settled, where no plan that it
 /// asks for is refused.

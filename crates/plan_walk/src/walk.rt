@@ -1,7 +1,8 @@
 //! A walk over a plan.
-ghost use Rattle.std.specs.Prelude.{◌≡◌, ◌==◌, ◌+◌, ℕ, List, [], true, length, map, Some, IfOk, IfErr, OnOk, slice_get};
+ghost use Rattle.std.specs.Prelude.{◌≡◌, ◌==◌, ◌+◌, ℕ, List, [], true, length, map, Some, IfOk, IfErr, OnOk, MatchOption, slice_get};
 ghost use Rattle.std.specs.Option.{option_copied};
 ghost use Rattle.plan_schema.specs.declared.name.Name.{Name};
+ghost use Rattle.low_level_codes.specs.Numbers.{Lacks};
 ghost use Rattle.version_rules.specs.Meaning.{Meaning};
 ghost use Rattle.walk_rules.specs.Cells.{Stands, records};
 ghost use Rattle.plan_jobs.specs.Jobs.{IsJob, asked_by, wants_plan};
@@ -166,6 +167,21 @@ impl Walk {
     {
         let at = *self.front.get(place)?;
         Some(&self.nodes[at].name)
+    }
+
+    /// The part at a place, from 0: the parts stand by level, and in a level by name.
+    pub fn name_at(&self, place: usize) -> Option<&Name>
+        ensures { option_copied result ≡ slice_get (names_of self.now.parts) place }
+    {
+        self.places.name(place)
+    }
+
+    /// The place of a part.
+    pub fn place_of(&self, name: &Name) -> Option<usize>
+        ensures { MatchOption result (Lacks (names_of self.now.parts) name.now)
+            (λ place. slice_get (names_of self.now.parts) place ≡ Some name.now) }
+    {
+        self.places.find(name)
     }
 
     /// What is known of a part.

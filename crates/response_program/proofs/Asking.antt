@@ -4,26 +4,15 @@ use Rattle.program_words.specs.declared.program.Program.{Program}
 use Rattle.program_words.specs.declared.program.Program.TheVariants as program
 use Rattle.program_words.specs.declared.program.Still.TheVariants as still
 use Rattle.program_words.specs.declared.program.RunWords.{RunWords}
-use Rattle.program_words.specs.Rounds.{Pair, rounds_in, all_pairs, pair_of, have_one_pair_each}
 use Rattle.program_words.specs.Words.{program_of}
-use Rattle.program_words.specs.declared.rounds.PlacedPair.{PlacedPair}
-use Rattle.program_words.proofs.AllPairs.{pairs_of_rounds}
 use Rattle.program_words.proofs.Told.{IsTold, told, IsMakeTold, told_make}
 use Rattle.response_program.specs.declared.asked.Asked.{Asked}
 use Rattle.response_program.specs.declared.asked.Asked.TheVariants as asked
 use Rattle.response_program.specs.declared.making.Making.{Making}
 use Rattle.response_program.specs.Words.{served_by, served}
 
-fits : (each : Bool) (run other : RunWords) → (if each then Some (asked.Run run) else None) ≡ Some (asked.Run other) → run ≡ other
-fits true run other h = cc
-fits false run other h = cc
-
-no_fit : (each : Bool) (run : RunWords) (making : Making) → (if each then Some (asked.Run run) else None) ≡ Some (asked.Make making) → ⊥
-no_fit true run making h = cc
-no_fit false run making h = cc
-
 is_run : (words : Program) (run : RunWords) → Some (asked.Run run) ≡ served_by words → words ≡ program.Run run
-is_run (program.Run other) run h = ap program.Run (fits (have_one_pair_each other.rounds) other run (sym h))
+is_run (program.Run other) run h = cc
 is_run (program.Keep other) run h = cc
 is_run (program.Still (still.Audit base journal rounds)) run h = cc
 is_run (program.Still (still.Replay base journal input output)) run h = cc
@@ -35,7 +24,7 @@ abbrev pub make_program : Making → Program
 make_program making = program.Still (still.Make making.parts making.start making.base making.input)
 
 is_make : (words : Program) (making : Making) → Some (asked.Make making) ≡ served_by words → words ≡ make_program making
-is_make (program.Run other) making h = absurd (no_fit (have_one_pair_each other.rounds) other making (sym h))
+is_make (program.Run other) making h = cc
 is_make (program.Keep other) making h = cc
 is_make (program.Still (still.Audit base journal rounds)) making h = cc
 is_make (program.Still (still.Replay base journal input output)) making h = cc
@@ -55,7 +44,3 @@ asked_make words found making is by = told_make words making.parts making.start 
 -- what is served of words is what they ask for
 pub asked_is : (all : Option Program) (found : Program) (what other : Option Asked) → all ≡ Some found → what ≡ served_by found → served all ≡ other → what ≡ other
 asked_is all found what other is by same = by ∙ sym (ap served is) ∙ same
-
--- the pairs of all rounds, in the order of their sessions
-pub same_pairs : (placed : List PlacedPair) (rounds : List (List Pair)) → rounds_in placed ≡ rounds → map pair_of placed ≡ all_pairs rounds
-same_pairs placed rounds is = sym (pairs_of_rounds placed) ∙ ap all_pairs is

@@ -13,7 +13,7 @@ use Rattle.response_program.specs.Views.{View, NoneFell}
 use Rattle.response_program.specs.Outcomes.{Outcome, Done, NoMemory, Refused, NotOpened, TooLong, HasCause}
 use Rattle.response_program.specs.Runs.{Tells, IsOfBase, IsCut, ReadsTo, HasNoBook, HasRunOver, HasRunBook, HasRun}
 use Rattle.response_program.proofs.Chains.{both_fell, cause_after}
-use Rattle.response_program.proofs.Headline.{held_over, cut_over, long_over}
+use Rattle.response_program.proofs.Headline.{done_over, cut_all_over, long_over}
 use Rattle.response_program.proofs.Whole.{bytes_in}
 
 module _ (old late new : View) (names : Names) (differ : Differ names) (contents : Contents) (outcome : Outcome) (before : NoneFell old late)
@@ -40,13 +40,10 @@ module _ (old late new : View) (names : Names) (differ : Differ names) (contents
               contents = contents;
               base_is = reads_to tells;
               entries = entries;
-              counted = over.counted totals is;
+              totals_are = over.totals totals is;
               run = record {
                 journal_is = run.journal_is;
-                desks = run.desks;
-                held = held_over names.journal old late new new (λ name apart. holds name) (λ name apart. refl) names.pairs run.desks differ.no_journal run.held;
-                legal = run.legal;
-                within = run.within;
+                sessions = done_over names.journal old late new new (λ name apart. holds name) (λ name apart. refl) names contents entries differ.no_journal run.sessions;
               };
             });
         limit = λ session is tells.
@@ -64,7 +61,7 @@ module _ (old late new : View) (names : Names) (differ : Differ names) (contents
               run = record {
                 legal = run.legal;
                 journal_is = run.journal_is;
-                outputs = cut_over names.journal old late new new (λ name apart. holds name) (λ name apart. refl) contents 1 [] entries names.pairs differ.no_journal run.outputs;
+                outputs = cut_all_over names.journal old late new new (λ name apart. holds name) (λ name apart. refl) names contents entries differ.no_journal run.outputs;
               };
             });
       }

@@ -11,7 +11,8 @@ use Rattle.response_program.specs.Desks.{DeskView, IsGivenBack, AreGivenBack}
 use Rattle.response_program.proofs.Chains.{same_fell, both_fell, same_or_other, stays_later, counted_rose, cause_after}
 use Rattle.response_program.proofs.Named.{by_name, kept_then}
 use Rattle.response_program.proofs.Served as faults
-use Rattle.response_program.proofs.Served.{AreNamed, IsFaulty}
+use Rattle.response_program.proofs.Served.{IsFaulty}
+use Rattle.response_program.specs.InRounds.{AreNamed}
 
 given_fell : (old new : View) (desk : DeskView) → IsGivenBack old desk new → NoneFell old new
 given_fell old new desk h =

@@ -24,7 +24,7 @@ done_stopped contents session earlier entries desk after ds stop outcome old bet
     }
 
 -- a session behind which others are served has ended
-ended : (pair : Pair) (session : ℕ) (served : Served) → stop_of pair session served ≡ None → (count : ℕ) × (served ≡ ends.Ended count)
+pub ended : (pair : Pair) (session : ℕ) (served : Served) → stop_of pair session served ≡ None → (count : ℕ) × (served ≡ ends.Ended count)
 ended pair session (ends.Ended count) is = (count, refl)
 ended pair session ends.ReadFault is = cc
 ended pair session ends.WriteFault is = cc

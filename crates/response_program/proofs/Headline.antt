@@ -6,7 +6,6 @@ use Rattle.plan_schema.specs.declared.change.Entry.{Entry}
 use Rattle.plan_schema.specs.Contents.{Contents}
 use Rattle.plan_schema.specs.Outside.{StaysBut, IsKeptOrEmpty}
 use Rattle.scenario_rules.specs.Journal.{IsLegal}
-use Rattle.session_rules.specs.Runs.{Desk}
 use Rattle.request_loop.specs.Serving.{is_past_limit}
 use Rattle.sessions.specs.Serving.{IsServed, IsServedShort}
 use Rattle.response_program.specs.declared.ending.Totals.{Totals}
@@ -14,7 +13,7 @@ use Rattle.response_program.specs.Names.{Pair, Names, IsApart}
 use Rattle.response_program.specs.Views.{View}
 use Rattle.response_program.specs.Desks.{session_of}
 use Rattle.response_program.specs.Runs as runs
-use Rattle.response_program.specs.Runs.{Tells, AreHeld, AreCut, IsDoneOver, IsTooLongIn, IsShortOver, ReadsTo, IsDone, IsShort, IsTooLong}
+use Rattle.response_program.specs.Runs.{Tells, AreHeld, AreCut, AreDoneOver, AreCutOver, IsTooLongIn, ReadsTo, IsDone, IsShort, IsTooLong}
 use Rattle.response_program.proofs.Named.{all_kept, some_kept}
 
 -- no entries are a legal history
@@ -27,12 +26,14 @@ made_tells name old new tells here others other = some_kept (tells other) (all_k
 
 -- a file of this name is made before, and given back behind
 module _ (name : List ℕ) (old mid late new : View) (before : StaysBut name old.held mid.held) (after : StaysBut name late.held new.held) where
-  pub held_over : (pairs : List Pair) (sessions : List Desk) → AllByRecursion (IsApart name) pairs → AreHeld mid late pairs sessions → AreHeld old new pairs sessions
-  held_over [] [] apart h = tt
-  held_over (pair ∷ pairs) (desk ∷ sessions) apart h =
-      (sym (before pair.input apart.0.0) ∙ h.0, after pair.output apart.0.1 ∙ h.1, held_over pairs sessions apart.1 h.2)
-  held_over [] (desk ∷ sessions) apart h = absurd h
-  held_over (pair ∷ pairs) [] apart h = absurd h
+  pub held_over : (pairs : List Pair) (inputs outputs : List (List ℕ)) → AllByRecursion (IsApart name) pairs → AreHeld mid late pairs inputs outputs → AreHeld old new pairs inputs outputs
+  held_over [] [] [] apart h = tt
+  held_over (pair ∷ pairs) (input ∷ inputs) (output ∷ outputs) apart h =
+      (sym (before pair.input apart.0.0) ∙ h.0, after pair.output apart.0.1 ∙ h.1, held_over pairs inputs outputs apart.1 h.2)
+  held_over [] [] (output ∷ outputs) apart h = absurd h
+  held_over [] (input ∷ inputs) outputs apart h = absurd h
+  held_over (pair ∷ pairs) [] outputs apart h = absurd h
+  held_over (pair ∷ pairs) (input ∷ inputs) [] apart h = absurd h
 
   empty_over : (pairs : List Pair) → AllByRecursion (IsApart name) pairs → AllByRecursion (λ (other : Pair). late.held other.output ≡ Some []) pairs → AllByRecursion (λ (other : Pair). new.held other.output ≡ Some []) pairs
   empty_over [] apart h = tt
@@ -48,6 +49,17 @@ module _ (name : List ℕ) (old mid late new : View) (before : StaysBut name old
       runs.short session earlier entries pair pairs input (sym (before pair.input apart.0.0) ∙ held)
       (subst (λ after. IsServedShort (session_of contents session earlier) entries input (Some []) after) (sym (after pair.output apart.0.1)) served)
       (empty_over pairs apart.1 rest)
+
+  pub done_over : (names : Names) (contents : Contents) (entries : List Entry) → AllByRecursion (IsApart name) names.pairs → AreDoneOver mid late names contents entries → AreDoneOver old new names contents entries
+  done_over names contents entries apart h =
+      record { rounds = h.rounds; shape = h.shape; held = held_over names.pairs _ _ apart h.held; legal = h.legal; within = h.within }
+
+  pub cut_all_over : (names : Names) (contents : Contents) (entries : List Entry) → AllByRecursion (IsApart name) names.pairs → AreCutOver mid late names contents entries → AreCutOver old new names contents entries
+  cut_all_over names contents entries apart h =
+      record {
+        in_order = λ each. cut_over contents 1 [] entries names.pairs apart (h.in_order each);
+        in_rounds = λ other. (let cut = h.in_rounds other in record { rounds = cut.rounds; shape = cut.shape; held = held_over names.pairs _ _ apart cut.held; cut = cut.cut });
+      }
 
   -- the pair at a place is one of the pairs
   apart_at : (pairs : List Pair) (k : ℕ) (pair : Pair) → slice_get pairs k ≡ Some pair → AllByRecursion (IsApart name) pairs → IsApart name pair
@@ -78,19 +90,16 @@ module _ (name : List ℕ) (old mid late new : View) (before : StaysBut name old
     reads_over : (contents : Contents) → ReadsTo mid names contents → ReadsTo old names contents
     reads_over contents h = record { base = h.base; held = sym (before names.base no_base) ∙ h.held; read = h.read }
 
-    pub done_over : (totals : Totals) → IsDone mid late names totals → IsDone old new names totals
-    done_over totals h =
+    pub all_done_over : (totals : Totals) → IsDone mid late names totals → IsDone old new names totals
+    all_done_over totals h =
         record {
           contents = h.contents;
           base_is = reads_over h.contents h.base_is;
           entries = h.entries;
-          counted = h.counted;
+          totals_are = h.totals_are;
           run = record {
             journal_is = after names.journal no_journal ∙ h.run.journal_is;
-            desks = h.run.desks;
-            held = held_over names.pairs h.run.desks apart h.run.held;
-            legal = h.run.legal;
-            within = h.run.within;
+            sessions = done_over names h.contents h.entries apart h.run.sessions;
           };
         }
 
@@ -103,7 +112,7 @@ module _ (name : List ℕ) (old mid late new : View) (before : StaysBut name old
           run = record {
             legal = h.run.legal;
             journal_is = after names.journal no_journal ∙ h.run.journal_is;
-            outputs = cut_over h.contents 1 [] h.entries names.pairs apart h.run.outputs;
+            outputs = cut_all_over names h.contents h.entries apart h.run.outputs;
           };
         }
 

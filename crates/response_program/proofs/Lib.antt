@@ -8,6 +8,11 @@ pub mod Served
 pub mod Closed
 pub mod Whole
 pub mod Rounds
+pub mod Alone
+pub mod Comes
+pub mod Filled
+pub mod Filling
+pub mod Seated
 pub mod Endings
 pub mod Headline
 pub mod Bases

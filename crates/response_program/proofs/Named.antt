@@ -1,5 +1,5 @@
 -- What names of files tell of what is held.
-use Rattle.std.proofs.Common.{◌≡◌, ◌≢◌, ℕ, List, [], ◌∷◌, Bool, true, false, nat_eq, Option, refl, sym, subst, ◌∙◌, inl, inr}
+use Rattle.std.proofs.Common.{◌≡◌, ◌≢◌, ℕ, List, [], ◌∷◌, ◌++◌, Bool, true, false, nat_eq, Option, refl, sym, subst, ◌∙◌, inl, inr}
 use Rattle.std.specs.Prelude.{IsSome}
 use Rattle.std.specs.List.{AllByRecursion, list_all}
 use Rattle.std.specs.Cmp.Lexicographic.{pointwise, same_text, other_text}
@@ -38,3 +38,8 @@ each p Q f (x ∷ xs) h = let both = and_parts (p x) (list_all p xs) h in (f x b
 pub all_map : {A : Type 0} (P Q : A → Type 0) → ((x : A) → P x → Q x) → (xs : List A) → AllByRecursion P xs → AllByRecursion Q xs
 all_map P Q f [] h = tt
 all_map P Q f (x ∷ xs) h = (f x h.0, all_map P Q f xs h.1)
+
+-- what holds of all elements holds of those behind some
+pub all_behind : {A : Type 0} (P : A → Type 0) (front xs : List A) → AllByRecursion P (front ++ xs) → AllByRecursion P xs
+all_behind P [] xs h = h
+all_behind P (x ∷ front) xs h = all_behind P front xs h.1

@@ -1,6 +1,7 @@
 -- A run over contents, from its desks and its journal.
-use Rattle.std.proofs.Common.{◌≡◌, ◌≢◌, ℕ, ◌+◌, ◌-◌, List, [], length, Option, Some, None, Result, Ok, Err, refl, sym, ap, subst, ◌∙◌, arith, inl, inr}
-use Rattle.std.specs.Prelude.{unwrap_or}
+use Rattle.std.proofs.Common.{◌≡◌, ◌≢◌, ℕ, ◌+◌, ◌-◌, List, [], ◌++◌, length, Option, Some, None, Result, Ok, Err, refl, sym, ap, subst, ◌∙◌, arith, inl, inr}
+use Rattle.std.specs.Prelude.{unwrap_or, map, true, false}
+use Rattle.program_words.specs.Rounds.{all_pairs, have_one_pair_each}
 use Rattle.plan_schema.specs.declared.change.Entry.{Entry}
 use Rattle.plan_schema.specs.Contents.{Contents}
 use Rattle.plan_schema.specs.Outside.{Rose, IsKeptOrEmpty, StaysBut}
@@ -13,16 +14,19 @@ use Rattle.response_program.specs.Names.{Pair, Names, Differ}
 use Rattle.response_program.specs.Views.{View, NoneFell}
 use Rattle.response_program.specs.Outcomes.{Outcome, Done, Made, NoMemory, Refused, NotOpened, NotRead, NotWritten, TooLong, HasCause, and_written}
 use Rattle.response_program.specs.Desks.{HasServedAll, HasServedNone, IsOpening}
-use Rattle.response_program.specs.Runs.{Tells, IsNoOutput, IsOfBase, IsCut, AreCut, IsTooLongIn, HasRunOver}
+use Rattle.response_program.specs.InRounds as served
+use Rattle.response_program.specs.InRounds.{HasServedRounds, HasServedRun}
+use Rattle.response_program.specs.Runs.{Tells, IsNoOutput, IsOfBase, IsCut, AreDoneOver, AreCutOver, AreTotals, IsTooLongIn, HasRunOver}
 use Rattle.response_program.proofs.Chains.{both_fell, cause_later, cause_after}
-use Rattle.response_program.proofs.Named.{by_name, kept_then, all_map}
+use Rattle.response_program.proofs.Named.{by_name, kept_then, all_map, all_behind}
 use Rattle.response_program.proofs.Opened.{opens_made, opens_fresh, stops_made, why_stopped, stops_empty, stops_named}
 use Rattle.response_program.proofs.Served.{fresh_named, served_named, all_named, served_faulty, faulty_read, faulty_desk, IsOfDesk}
 use Rattle.response_program.proofs.Closed.{closed_fell, closed_others, closed_held, closed_cause, closed_kept, named_apart}
-use Rattle.response_program.proofs.Whole.{AllWhole, IsLongAt, all_whole, cut_short, long_at}
-use Rattle.response_program.proofs.Rounds.{is_run}
+use Rattle.response_program.proofs.Whole.{IsLongAt, all_whole, cut_short, long_at}
+use Rattle.response_program.proofs.Alone.{all_done}
+use Rattle.response_program.proofs.Comes.{come_named, come_faulty, come_long, telling, held_by}
 use Rattle.response_program.proofs.Endings.{written_done, written_long, written_of_base, written_opened, written_cause, written_cut, cut_written, opening_done, opening_long, opening_cut, opening_of_base}
-use Rattle.response_program.proofs.Headline.{held_over, cut_over, long_over, made_tells}
+use Rattle.response_program.proofs.Headline.{done_over, cut_all_over, long_over, made_tells}
 
 -- what desks came to: why the last one that was served stopped, if it did
 pub record DeskFacts (old new : View) (names : Names) (contents : Contents) (entries : List Entry) (stop : Option Outcome) : Type 0 where
@@ -31,13 +35,21 @@ pub record DeskFacts (old new : View) (names : Names) (contents : Contents) (ent
   pub cause : (outcome : Outcome) → stop ≡ Some outcome → HasCause old new outcome
   pub kind : (outcome : Outcome) → stop ≡ Some outcome → IsOfDesk outcome
   pub not_base : (name : List ℕ) → stop ≡ Some (NotRead name) → name ≢ names.base
-  pub done : stop ≡ None → Tells old → AllWhole contents old new 1 [] entries names.pairs
+  pub done : stop ≡ None → IsLegal contents entries → Tells old → AreDoneOver old new names contents entries
   pub limit : (session : ℕ) → stop ≡ Some (TooLong session) → Tells old → IsTooLongIn old names session
-  pub cut : (outcome : Outcome) → stop ≡ Some outcome → Tells old → AreCut old new contents 1 [] names.pairs entries
+  pub cut : (outcome : Outcome) → stop ≡ Some outcome → IsLegal contents entries → Tells old → AreCutOver old new names contents entries
 
-pub desk_facts : (old new : View) (names : Names) (contents : Contents) (entries : List Entry) (stop : Option Outcome) → Differ names → HasServedAll contents old new names.pairs entries stop
-    → DeskFacts old new names contents entries stop
-desk_facts old new names contents entries stop differ h =
+limited : (old : View) (names : Names) (session : ℕ) → (k : ℕ) × (session ≡ 1 + k) × IsLongAt old names.pairs k → IsTooLongIn old names session
+limited old names session found =
+    let is = found.1 in
+    let same : found.0 ≡ session - 1 = omega (arith, is) in
+    let at : IsLongAt old names.pairs (session - 1) = subst (IsLongAt old names.pairs) same found.2 in
+    record { pair = at.pair; at = at.at; input = at.input; held = at.held; past = at.past; earlier = at.earlier }
+
+-- one after the other
+order_facts : (old new : View) (names : Names) (contents : Contents) (entries : List Entry) (stop : Option Outcome) → Differ names → names.pairs ≡ all_pairs names.rounds → have_one_pair_each names.rounds ≡ true
+    → HasServedAll contents old new names.pairs entries stop → DeskFacts old new names contents entries stop
+order_facts old new names contents entries stop differ pairs_are each h =
     let made = opens_made old h.opened names.pairs h.desks h.opens in
     let fresh = opens_fresh old h.opened names.pairs h.desks h.opens differ.no_input in
     let named = served_named contents 1 [] entries h.desks h.done.left stop h.done.served names.pairs (fresh_named old names.pairs h.desks fresh) in
@@ -50,19 +62,55 @@ desk_facts old new names contents entries stop differ h =
       kind = λ outcome is. faulty_desk h.done.left outcome (served_faulty contents old 1 [] entries h.desks h.done.left stop h.done.served names.pairs fresh outcome is);
       not_base = λ name is. faulty_read names.base h.done.left (NotRead name) (served_faulty contents old 1 [] entries h.desks h.done.left stop h.done.served names.pairs fresh (NotRead name) is)
           (all_named (λ (pair : Pair). pair.input ≢ names.base) names.pairs h.done.left named (all_map _ (λ (pair : Pair). pair.input ≢ names.base) (λ pair apart. apart.0) names.pairs differ.no_base)) name refl;
-      done = λ is tells. all_whole contents old new tells 1 [] entries h.desks h.done.left stop h.done.served names.pairs fresh held is;
+      done = λ is legal tells. all_done old new names contents entries pairs_are each legal (all_whole contents old new tells 1 [] entries h.desks h.done.left stop h.done.served names.pairs fresh held is);
       limit = λ session is tells. limited old names session (long_at contents old tells 1 [] entries h.desks h.done.left stop h.done.served names.pairs fresh session is);
-      cut = λ outcome is tells. cut_short contents old new tells 1 [] entries h.desks h.done.left stop h.done.served names.pairs fresh held outcome is;
+      cut = λ outcome is legal tells.
+          record {
+            in_order = λ same. cut_short contents old new tells 1 [] entries h.desks h.done.left stop h.done.served names.pairs fresh held outcome is;
+            in_rounds = λ other. absurd (both_ways (sym each ∙ other));
+          };
     }
   where
-    limited : (old : View) (names : Names) (session : ℕ) → (k : ℕ) × (session ≡ 1 + k) × IsLongAt old names.pairs k → IsTooLongIn old names session
-    limited old names session found =
-        let is = found.1 in
-        let same : found.0 ≡ session - 1 = omega (arith, is) in
-        let at : IsLongAt old names.pairs (session - 1) = subst (IsLongAt old names.pairs) same found.2 in
-        record { pair = at.pair; at = at.at; input = at.input; held = at.held; past = at.past; earlier = at.earlier }
+    both_ways : true ≡ false → ⊥
+    both_ways is = cc
 
--- what is left of desks that couldn't be opened
+-- in rounds
+round_facts : (old new : View) (names : Names) (contents : Contents) (entries : List Entry) (stop : Option Outcome) → Differ names → have_one_pair_each names.rounds ≡ false
+    → HasServedRounds contents old new names.pairs (map length names.rounds) entries stop → DeskFacts old new names contents entries stop
+round_facts old new names contents entries stop differ each h =
+    let made = opens_made old h.opened names.pairs h.desks h.opens in
+    let fresh = opens_fresh old h.opened names.pairs h.desks h.opens differ.no_input in
+    let named = come_named 1 h.desks h.left stop h.served.come names.pairs (fresh_named old names.pairs h.desks fresh) in
+    let held = closed_held h.opened new h.left h.closed (named_apart names.pairs h.left named differ.outputs) in
+    let faulty = λ (outcome : Outcome) (is : stop ≡ Some outcome). come_faulty old 1 h.desks h.left stop h.served.come names.pairs fresh outcome is in
+    record {
+      none_fell = both_fell old h.opened new made.none_fell (closed_fell h.opened new h.left h.closed);
+      others = λ name apart. closed_others h.opened new h.left h.closed name (all_named (λ (pair : Pair). name ≢ pair.output) names.pairs h.left named apart) ∙ made.others name apart;
+      cause = λ outcome is. cause_after old h.opened new outcome made.none_fell (closed_cause h.opened new h.left outcome h.closed (faulty outcome is));
+      kind = λ outcome is. faulty_desk h.left outcome (faulty outcome is);
+      not_base = λ name is. faulty_read names.base h.left (NotRead name) (faulty (NotRead name) is)
+          (all_named (λ (pair : Pair). pair.input ≢ names.base) names.pairs h.left named (all_map _ (λ (pair : Pair). pair.input ≢ names.base) (λ pair apart. apart.0) names.pairs differ.no_base)) name refl;
+      done = λ is legal tells.
+          (let run = h.served.done is legal (telling old tells names.pairs h.desks fresh) in
+          record { rounds = run.0; shape = run.2; held = held_by old new names.pairs h.desks h.left fresh named held _ _ run.1; legal = run.3; within = run.4 });
+      limit = λ session is tells. limited old names session (come_long old tells 1 h.desks h.left stop h.served.come names.pairs fresh session is);
+      cut = λ outcome is legal tells.
+          record {
+            in_order = λ same. absurd (both_ways (sym same ∙ each));
+            in_rounds = λ other. (let run = h.served.cut legal (telling old tells names.pairs h.desks fresh) in
+                record { rounds = run.0; shape = run.2; held = held_by old new names.pairs h.desks h.left fresh named held _ _ run.1; cut = run.3 });
+          };
+    }
+  where
+    both_ways : true ≡ false → ⊥
+    both_ways is = cc
+
+pub desk_facts : (old new : View) (names : Names) (contents : Contents) (entries : List Entry) (stop : Option Outcome) → Differ names → names.pairs ≡ all_pairs names.rounds
+    → HasServedRun contents old new names entries stop → DeskFacts old new names contents entries stop
+desk_facts old new names contents entries stop differ pairs_are (served.in_order each h) = order_facts old new names contents entries stop differ pairs_are each h
+desk_facts old new names contents entries stop differ pairs_are (served.in_rounds each h) = round_facts old new names contents entries stop differ each h
+
+-- what is left of desks of which no session is told
 pub record NoneFacts (old new : View) (names : Names) (outcome : Outcome) : Type 0 where
   pub none_fell : NoneFell old new
   pub others : (name : List ℕ) → IsNoOutput names name → new.held name ≡ old.held name
@@ -72,15 +120,16 @@ pub record NoneFacts (old new : View) (names : Names) (outcome : Outcome) : Type
 
 pub none_facts : (old new : View) (names : Names) (outcome : Outcome) → HasServedNone old new names.pairs outcome → NoneFacts old new names outcome
 none_facts old new names outcome h =
-    let made = stops_made old h.opened names.pairs h.desks outcome h.stops in
-    let why = why_stopped old h.opened names.pairs h.desks outcome h.stops in
+    let all = h.gone ++ h.desks in
+    let made = stops_made old h.opened names.pairs all outcome h.stops in
+    let why = why_stopped old h.opened names.pairs all outcome h.stops in
     let closing = closed_fell h.opened new h.desks h.closed in
     record {
       none_fell = both_fell old h.opened new made.none_fell closing;
-      others = λ name apart. closed_others h.opened new h.desks h.closed name (stops_named (λ (pair : Pair). name ≢ pair.output) old h.opened names.pairs h.desks outcome h.stops apart) ∙ made.others name apart;
+      others = λ name apart. closed_others h.opened new h.desks h.closed name (all_behind _ h.gone h.desks (stops_named (λ (pair : Pair). name ≢ pair.output) old h.opened names.pairs all outcome h.stops apart)) ∙ made.others name apart;
       opening = why.opening;
       cause = cause_later old h.opened new outcome closing why.cause;
-      kept = λ tells name. kept_then (made.kept name) (closed_kept h.opened new h.desks h.closed (stops_empty old h.opened names.pairs h.desks outcome h.stops tells) name);
+      kept = λ tells name. kept_then (made.kept name) (closed_kept h.opened new h.desks h.closed (all_behind _ h.gone h.desks (stops_empty old h.opened names.pairs all outcome h.stops tells)) name);
     }
 
 -- with the journal ---------------------------------------------------------------------------------------------------------------
@@ -134,7 +183,7 @@ module _ (old mid late new : View) (names : Names) (contents : Contents) (entrie
   tells_mid tells = made_tells names.journal old mid tells here before
 
   -- the sessions ran, and the journal was written or failed
-  pub over_desks : (stop : Option Outcome) (totals : Totals) (written : Result (Unit {0}) SinkFault) → DeskFacts mid late names contents entries stop → totals.entries ≡ length entries
+  pub over_desks : (stop : Option Outcome) (totals : Totals) (written : Result (Unit {0}) SinkFault) → DeskFacts mid late names contents entries stop → AreTotals names entries totals
       → IsLegal contents entries → (written ≡ Err sinks.Failed → Rose (old.writes names.journal) (new.writes names.journal))
       → (written ≡ Ok tt → Tells old → new.held names.journal ≡ Some (journal_text entries)) → HasRunOver old new names contents entries (and_written (ending_of stop totals) names.journal written)
   over_desks stop totals written facts counted legal failed text =
@@ -147,17 +196,13 @@ module _ (old mid late new : View) (names : Names) (contents : Contents) (entrie
             (cause_later old late new outcome giving (cause_after old mid late outcome making (of_cause mid late stop totals facts.cause))) failed;
         not_of_base = λ is. of_base names stop totals facts.kind facts.not_base (written_of_base names outcome names.journal written is);
         opened = λ fault is. absurd (of_opened stop totals fault facts.kind (written_opened outcome names.journal written fault is));
-        counted = λ found is. (let same = of_done stop totals found facts.kind (written_done outcome names.journal written found is).0 in sym (ap (λ t. t.entries) same.1) ∙ counted);
+        totals = λ found is. (let same = of_done stop totals found facts.kind (written_done outcome names.journal written found is).0 in subst (AreTotals names entries) same.1 counted);
         done = λ found is tells.
             (let both = written_done outcome names.journal written found is in
             let none = of_done stop totals found facts.kind both.0 in
-            let whole = facts.done none.0 (tells_mid tells) in
             record {
               journal_is = text both.1 tells;
-              desks = whole.sessions;
-              held = held_over names.journal old mid late new before after names.pairs whole.sessions differ.no_journal whole.held;
-              legal = is_run contents entries whole.sessions legal whole.chain;
-              within = whole.within;
+              sessions = done_over names.journal old mid late new before after names contents entries differ.no_journal (facts.done none.0 legal (tells_mid tells));
             });
         limit = λ session is tells.
             long_over names.journal old mid late new before after names session differ.no_journal
@@ -167,7 +212,7 @@ module _ (old mid late new : View) (names : Names) (contents : Contents) (entrie
             record {
               legal = legal;
               journal_is = text (cut_written names outcome names.journal written cut (λ is. never (failed is))) tells;
-              outputs = cut_over names.journal old mid late new before after contents 1 [] entries names.pairs differ.no_journal (facts.cut stopped.0 stopped.1 (tells_mid tells));
+              outputs = cut_all_over names.journal old mid late new before after names contents entries differ.no_journal (facts.cut stopped.0 stopped.1 legal (tells_mid tells));
             });
       }
 
@@ -182,7 +227,7 @@ module _ (old mid late new : View) (names : Names) (contents : Contents) (entrie
         opened = λ failed is tells name.
             by_name name names.journal (λ same. inr (ap new.held same ∙ empty tells))
             (λ apart. kept_then (inl (before name apart)) (kept_then (facts.kept (tells_mid tells) name) (inl (after name apart))));
-        counted = λ totals is. absurd (opening_done outcome totals facts.opening is);
+        totals = λ totals is. absurd (opening_done outcome totals facts.opening is);
         done = λ totals is. absurd (opening_done outcome totals facts.opening is);
         limit = λ session is. absurd (opening_long outcome session facts.opening is);
         cut = λ cut. absurd (opening_cut names outcome facts.opening cut);

@@ -11,13 +11,8 @@ use Rattle.response_program.specs.Views.{View}
 use Rattle.response_program.specs.Outcomes.{Outcome, Done, Made, NoMemory, Refused, NotOpened, NotRead, NotWritten, TooLong, stop_of}
 use Rattle.response_program.specs.Desks as desks
 use Rattle.response_program.specs.Desks.{DeskView, HasServed, AreServed}
+use Rattle.response_program.specs.InRounds.{AreNamed}
 use Rattle.response_program.proofs.Opened.{AreFresh}
-
--- desks of these pairs
-abbrev pub AreNamed : List Pair → List DeskView → Type 0
-AreNamed [] [] = Unit {0}
-AreNamed (pair ∷ pairs) (desk ∷ ds) = (desk.pair ≡ pair) × AreNamed pairs ds
-AreNamed pairs ds = ⊥
 
 pub fresh_named : (old : View) (pairs : List Pair) (ds : List DeskView) → AreFresh old pairs ds → AreNamed pairs ds
 fresh_named old [] [] h = tt
@@ -51,7 +46,7 @@ pub data IsFaulty : List DeskView → Outcome → Type 0 where
   memory : (ds : List DeskView) → IsFaulty ds NoMemory
   later : (desk : DeskView) (ds : List DeskView) (outcome : Outcome) → IsFaulty ds outcome → IsFaulty (desk ∷ ds) outcome
 
-rose_fresh : {before now : ℕ} → before ≡ 0 → Rose before now → Rose 0 now
+pub rose_fresh : {before now : ℕ} → before ≡ 0 → Rose before now → Rose 0 now
 rose_fresh {before} {now} none rose = subst (λ n. Rose n now) none rose
 
 pub some_is : {A : Type 0} {a b : A} → Some a ≡ Some b → a ≡ b

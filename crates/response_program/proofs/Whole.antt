@@ -1,6 +1,6 @@
 -- What sessions that were served one after the other come to, by what the shelf holds before and after them.
 use Rattle.std.proofs.Common.{◌≡◌, ℕ, suc, ◌+◌, List, [], ◌∷◌, Option, Some, None, true, false, refl, sym, subst, ◌∙◌, arith}
-use Rattle.std.specs.Prelude.{IsSome, take, slice_get}
+use Rattle.std.specs.Prelude.{IsSome, take, slice_get, map}
 use Rattle.std.specs.List.{AllByRecursion, flat_map}
 use Rattle.plan_schema.specs.declared.change.Entry.{Entry}
 use Rattle.plan_schema.specs.Contents.{Contents}
@@ -39,7 +39,7 @@ pub data Chain (contents : Contents) : ℕ → List Entry → List Desk → List
 -- the sessions of pairs, as the shelf tells them
 pub record AllWhole (contents : Contents) (old new : View) (session : ℕ) (earlier entries : List Entry) (pairs : List Pair) : Type 0 where
   pub sessions : List Desk
-  pub held : AreHeld old new pairs sessions
+  pub held : AreHeld old new pairs (map (λ desk. desk.input) sessions) (map (λ desk. desk.output) sessions)
   pub chain : Chain contents session earlier sessions entries
   pub within : AllByRecursion (λ (desk : Desk). is_past_limit desk.input ≡ false) sessions
 
@@ -120,7 +120,7 @@ pub record IsLongAt (old : View) (pairs : List Pair) (k : ℕ) : Type 0 where
   pub past : is_past_limit input ≡ true
   pub earlier : AllByRecursion (IsWithin old) (take k pairs)
 
-limit_is : (pair : Pair) (session number : ℕ) (served : Served) → stop_of pair session served ≡ Some (TooLong number) → (served ≡ ends.Limit) × (number ≡ session)
+pub limit_is : (pair : Pair) (session number : ℕ) (served : Served) → stop_of pair session served ≡ Some (TooLong number) → (served ≡ ends.Limit) × (number ≡ session)
 limit_is pair session number (ends.Ended count) is = cc
 limit_is pair session number ends.ReadFault is = cc
 limit_is pair session number ends.WriteFault is = cc

@@ -1,5 +1,5 @@
 -- What desks come to: their files are opened, their sessions are served one after the other, and their files are given back.
-use Rattle.std.specs.Prelude.{◌≡◌, ◌≤◌, ℕ, ◌+◌, true, List, [], ◌∷◌, Option, Some, None, IsSome}
+use Rattle.std.specs.Prelude.{◌≡◌, ◌≤◌, ℕ, ◌+◌, true, List, [], ◌∷◌, ◌++◌, Option, Some, None, IsSome}
 use Rattle.plan_schema.specs.declared.change.Entry.{Entry}
 use Rattle.plan_schema.specs.Contents.{Contents}
 use Rattle.plan_schema.specs.Outside.{Rose, Stays, StaysBut, IsKeptOrEmpty, Counted}
@@ -53,7 +53,7 @@ pub data Opens : View → List Pair → List DeskView → View → Type 0 where
   more : (old between new : View) (pair : Pair) (desk : DeskView) (pairs : List Pair) (desks : List DeskView)
       → IsOpened old pair desk between → Opens between pairs desks new → Opens old (pair ∷ pairs) (desk ∷ desks) new
 
--- the first pairs were opened, and the next one couldn't be, or there was no memory for the desks
+-- the first pairs were opened, and the next one couldn't be, or there was no memory for more, or no turn was left
 pub data StopsOpening : View → List Pair → List DeskView → Outcome → View → Type 0 where
   no_room : (shelf : View) (pairs : List Pair) → StopsOpening shelf pairs [] NoMemory shelf
   here : (old new : View) (pair : Pair) (pairs : List Pair) (outcome : Outcome) → IsUnopened old pair outcome new → StopsOpening old (pair ∷ pairs) [] outcome new
@@ -123,9 +123,11 @@ pub record HasServedAll (contents : Contents) (old new : View) (pairs : List Pai
   pub opens : Opens old pairs desks opened
   pub done : AreDone contents 1 [] entries desks stop opened new
 
--- a pair couldn't be opened, and what was opened before it was given back as it was
+-- No session's outcome is told: a pair couldn't be opened, or there was no memory behind the opened ones, or no turn was left. What was
+-- opened was given back as it was, or let go: some desks at the front.
 pub record HasServedNone (old new : View) (pairs : List Pair) (outcome : Outcome) : Type 0 where
   pub opened : View
+  pub gone : List DeskView
   pub desks : List DeskView
-  pub stops : StopsOpening old pairs desks outcome opened
+  pub stops : StopsOpening old pairs (gone ++ desks) outcome opened
   pub closed : AreGivenBack opened desks new

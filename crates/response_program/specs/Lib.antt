@@ -5,6 +5,7 @@ pub mod Names
 pub mod Views
 pub mod Outcomes
 pub mod Desks
+pub mod InRounds
 pub mod Runs
 pub mod Responses
 pub use Rattle.plan_schema.specs.Outside

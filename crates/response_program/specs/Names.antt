@@ -1,27 +1,27 @@
 -- The names of a run's files.
-use Rattle.std.specs.Prelude.{◌≢◌, ℕ, List, [], ◌∷◌, map, codes}
+use Rattle.std.specs.Prelude.{◌≢◌, ℕ, List, [], ◌∷◌, codes}
 use Rattle.std.specs.List.{AllByRecursion}
 pub use Rattle.program_words.specs.Rounds.{Pair}
 use Rattle.program_words.specs.Rounds.{all_pairs}
-use Rattle.program_words.specs.Rounds as words
 use Rattle.program_words.specs.declared.program.RunWords.{RunWords}
 use Rattle.response_program.specs.declared.files.Pair.{Pair as PairWords}
 use Rattle.response_program.specs.declared.files.RunFiles.{RunFiles}
 
--- the base, the journal, and the pairs of all rounds
+-- the base, the journal, the pairs in the order of their sessions, and the same in rounds
 pub record Names : Type 0 where
   pub base : List ℕ
   pub journal : List ℕ
   pub pairs : List Pair
+  pub rounds : List (List Pair)
 
 abbrev pub pair_of : PairWords → Pair
 pair_of words = record { input = words.input.now; output = words.output.now }
 
 abbrev pub names_of : RunWords → Names
-names_of run = record { base = run.base; journal = run.journal; pairs = all_pairs run.rounds }
+names_of run = record { base = run.base; journal = run.journal; pairs = all_pairs run.rounds; rounds = run.rounds }
 
 abbrev pub files_of : RunFiles → Names
-files_of files = record { base = files.base.now; journal = files.journal.now; pairs = map words.pair_of files.pairs.now }
+files_of files = record { base = files.base.now; journal = files.journal.now; pairs = all_pairs files.rounds.now; rounds = files.rounds.now }
 
 -- the console's name
 abbrev pub console : List ℕ

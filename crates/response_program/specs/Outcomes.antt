@@ -1,5 +1,6 @@
 -- How a command comes out: its status, the console's line, and the cause of each fault.
-use Rattle.std.specs.Prelude.{ℕ, List, [], ◌∷◌, Option, Some, None, Result, Ok, Err, codes, decimal}
+use Rattle.std.specs.Prelude.{ℕ, ◌+◌, List, [], ◌∷◌, Option, Some, None, Result, Ok, Err, codes, decimal}
+use Rattle.std.specs.Option.{option_or}
 use Rattle.plan_schema.specs.Outside.{Rose}
 use Rattle.plan_schema.specs.declared.outside.ShelfFault.{ShelfFault}
 use Rattle.plan_schema.specs.declared.outside.ShelfFault.TheVariants as shelves
@@ -13,14 +14,15 @@ use Rattle.plan_import.specs.declared.ImportFault.{ImportFault}
 use Rattle.plan_import.specs.declared.ImportFault.TheVariants as imports
 use Rattle.plan_make.specs.declared.fault.MakeFault.{MakeFault}
 use Rattle.plan_make.specs.declared.fault.MakeFault.TheVariants as makes
+use Rattle.plan_walk.specs.declared.round.Tally.{Tally}
 use Rattle.response_program.specs.declared.ending.Totals.{Totals}
 use Rattle.response_program.specs.declared.ending.Ending.{Ending}
 use Rattle.response_program.specs.declared.ending.Ending.TheVariants as endings
 use Rattle.response_program.specs.Names.{Pair}
 use Rattle.response_program.specs.Views.{View}
 
--- everything ended, with these totals; a base and an input of so many parts are made; there was no memory; the base is refused; a file can't be opened, read or written; the input of
--- the session with this number is too long
+-- everything ended, with these totals; a base and an input of so many parts are made; there was no memory, or no turn was left; the base
+-- is refused; a file can't be opened, read or written; the input of the session with this number is too long
 pub data Outcome : Type 0 where
   Done : Totals → Outcome
   Made : ℕ → Outcome
@@ -59,11 +61,15 @@ base_words (imports.Twice number) = codes "twice" ∷ decimal number ∷ []
 base_words (imports.Full room) = codes "full" ∷ room_word room ∷ []
 base_words fault = codes "no-plan" ∷ []
 
+-- what was netted, reused and dropped, where it is told
+abbrev pub work_words : Option Tally → List (List ℕ)
+work_words None = []
+work_words (Some work) =
+    codes "netted" ∷ decimal work.netted ∷ codes "reused" ∷ decimal work.reused ∷ codes "dropped" ∷ decimal work.dropped ∷ []
+
 -- the console's line
 abbrev pub line_words : Outcome → List (List ℕ)
-line_words (Done totals) =
-    codes "entries" ∷ decimal totals.entries ∷ codes "netted" ∷ decimal totals.work.netted ∷ codes "reused" ∷ decimal totals.work.reused ∷ codes "dropped"
-    ∷ decimal totals.work.dropped ∷ []
+line_words (Done totals) = codes "entries" ∷ decimal totals.entries ∷ work_words totals.work
 line_words (Made parts) = codes "parts" ∷ decimal parts ∷ []
 line_words NoMemory = codes "memory" ∷ []
 line_words (Refused fault) = codes "base" ∷ base_words fault
@@ -100,6 +106,16 @@ stop_of pair session ends.ReadFault = Some (NotRead pair.input)
 stop_of pair session ends.WriteFault = Some (NotWritten pair.output)
 stop_of pair session ends.Limit = Some (TooLong session)
 stop_of pair session served = Some NoMemory
+
+-- why the first of some sessions in order, numbered on from this, didn't end, by how those ended that were served: none where no such one is
+-- told
+abbrev pub stop_by : Pair → ℕ → Option Served → Option Outcome
+stop_by pair session None = None
+stop_by pair session (Some served) = stop_of pair session served
+
+abbrev pub first_stop : ℕ → List Pair → List (Option Served) → Option Outcome
+first_stop session (pair ∷ pairs) (served ∷ more) = option_or (stop_by pair session served) (first_stop (session + 1) pairs more)
+first_stop session pairs more = None
 
 -- the first fault stays, but want of memory tops all
 abbrev pub first_of_two : Outcome → List ℕ → Outcome

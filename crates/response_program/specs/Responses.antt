@@ -12,13 +12,16 @@ use Rattle.response_program.specs.Runs.{Tells, IsNoOutput, IsOfBase, IsDone, IsT
 -- The program ran and answered a status. No count of faults fell, and a file that failed is told only where its count of that kind
 -- rose. What is said of files is said on a shelf that tells what it holds.
 -- Status 0: the base reads to contents, the journal held is that of a legal history of changes, and the outputs held are the texts of
--- sessions that are legal at this history for the inputs held, one after the other; each entry is an accepted change of exactly one
--- session, and each session's stand in its order.
+-- sessions that are legal at this history for the inputs held, in the rounds that the words tell: the rounds stand one after the other,
+-- and the sessions of a round in any order of their turns; each entry is an accepted change of exactly one session, and each session's
+-- stand in its order. What was netted, reused and dropped is told just where each round has one session.
 -- Status 3: the base is refused for its first fault, and everything but the console is as before, as it is where the base wasn't read.
 -- Status 4: each file is as before or empty. Status 7: the base reads to contents, and the input of the session told is the first that
--- is too long; with status 0 none is. Where an input or an output failed, or an input is too long, the outputs of earlier sessions are
--- whole; that of the session in question is the text of legal replies to its first requests, maybe without a part of the last one;
--- later ones are empty; and the journal, unless it failed too, is that of the changes accepted by them.
+-- is too long; with status 0 none is. Where an input or an output failed, or an input is too long, the journal, unless it failed too, is
+-- that of the changes accepted. Where each round has one session, the outputs of earlier sessions are whole; that of the session in
+-- question is the text of legal replies to its first requests, maybe without a part of the last one; and later ones are empty. Else the
+-- outputs of the rounds before the last that was begun are whole; each of that one's is the text of legal replies to the first requests
+-- of its session, maybe without a part of the last one; and those of later rounds are empty.
 -- But for want of memory the console holds the line of the outcome, unless the console itself failed.
 pub record HasResponded (old new : View) (names : Names) (status : ℕ) : Type 0 where
   pub outcome : Outcome

@@ -1,5 +1,5 @@
 -- What a run comes to, as the shelf tells it.
-use Rattle.std.specs.Prelude.{◌≡◌, ◌≢◌, ◌⊎◌, ℕ, ◌+◌, ◌-◌, true, false, List, [], ◌∷◌, length, take, map, Some, Ok, Err, IsSome, slice_get}
+use Rattle.std.specs.Prelude.{◌≡◌, ◌≢◌, ◌⊎◌, ℕ, ◌+◌, ◌-◌, true, false, List, [], ◌∷◌, length, take, map, Some, Ok, Err, IsSome, is_some, slice_get}
 use Rattle.std.specs.List.{AllByRecursion}
 use Rattle.plan_schema.specs.declared.change.Entry.{Entry}
 use Rattle.plan_schema.specs.Contents.{Contents}
@@ -11,6 +11,9 @@ use Rattle.scenario_rules.specs.Journal.{IsLegal}
 use Rattle.session_rules.specs.Runs.{Desk, IsRun}
 use Rattle.request_loop.specs.Serving.{is_past_limit}
 use Rattle.sessions.specs.Serving.{IsServed, IsServedShort}
+use Rattle.byte_lines.specs.Desks.{all_desks}
+use Rattle.desk_rounds.specs.Told.{Spoken, AreCutRounds}
+use Rattle.program_words.specs.Rounds.{have_one_pair_each}
 use Rattle.response_program.specs.declared.ending.Totals.{Totals}
 use Rattle.response_program.specs.Names.{Pair, Names, console}
 use Rattle.response_program.specs.Views.{View, NoneFell}
@@ -41,18 +44,28 @@ IsCut names outcome = ⊥
 -- everything is done ---------------------------------------------------------------------------------------------------------
 
 -- each session was sent what its input held before, and its output holds what it wrote
-abbrev pub AreHeld : View → View → List Pair → List Desk → Type 0
-AreHeld old new [] [] = Unit {0}
-AreHeld old new (pair ∷ pairs) (desk ∷ desks) = (old.held pair.input ≡ Some desk.input) × (new.held pair.output ≡ Some desk.output) × AreHeld old new pairs desks
-AreHeld old new pairs desks = ⊥
+abbrev pub AreHeld : View → View → List Pair → (inputs outputs : List (List ℕ)) → Type 0
+AreHeld old new [] [] [] = Unit {0}
+AreHeld old new (pair ∷ pairs) (input ∷ inputs) (output ∷ outputs) = (old.held pair.input ≡ Some input) × (new.held pair.output ≡ Some output) × AreHeld old new pairs inputs outputs
+AreHeld old new pairs inputs outputs = ⊥
 
--- over contents, with these entries: the journal held is theirs, and the run of the sessions, each in a round of its own, is legal
+-- over contents, with these entries: the run of the sessions, in rounds as the words tell them, is legal, and no input is too long
+pub record AreDoneOver (old new : View) (names : Names) (contents : Contents) (entries : List Entry) : Type 0 where
+  pub rounds : List (List Desk)
+  pub shape : map length rounds ≡ map length names.rounds
+  pub held : AreHeld old new names.pairs (map (λ desk. desk.input) (all_desks rounds)) (map (λ desk. desk.output) (all_desks rounds))
+  pub legal : IsRun contents [] entries rounds
+  pub within : AllByRecursion (λ (desk : Desk). is_past_limit desk.input ≡ false) (all_desks rounds)
+
+-- and the journal held is that of the entries
 pub record IsDoneOver (old new : View) (names : Names) (contents : Contents) (entries : List Entry) : Type 0 where
   pub journal_is : new.held names.journal ≡ Some (journal_text entries)
-  pub desks : List Desk
-  pub held : AreHeld old new names.pairs desks
-  pub legal : IsRun contents [] entries (map (λ desk. desk ∷ []) desks)
-  pub within : AllByRecursion (λ (desk : Desk). is_past_limit desk.input ≡ false) desks
+  pub sessions : AreDoneOver old new names contents entries
+
+-- the totals of a run: how many entries there are; and what was netted, reused and dropped is told just where each round has one session
+pub record AreTotals (names : Names) (entries : List Entry) (totals : Totals) : Type 0 where
+  pub counted : totals.entries ≡ length entries
+  pub told : is_some totals.work ≡ have_one_pair_each names.rounds
 
 -- an input is too long -------------------------------------------------------------------------------------------------------
 
@@ -77,10 +90,22 @@ pub data AreCut (old new : View) (contents : Contents) : ℕ → List Entry → 
       → IsServedShort (session_of contents session earlier) entries input (Some []) (new.held pair.output)
       → AllByRecursion (λ (other : Pair). new.held other.output ≡ Some []) pairs → AreCut old new contents session earlier (pair ∷ pairs) entries
 
+-- the same for rounds: all sessions of the rounds before the last that was begun are whole, and each output holds what its session wrote
+pub record AreCutInRounds (old new : View) (names : Names) (contents : Contents) (entries : List Entry) : Type 0 where
+  pub rounds : List (List Spoken)
+  pub shape : map length rounds ≡ map length names.rounds
+  pub held : AreHeld old new names.pairs (map (λ spoken. spoken.input) (all_desks rounds)) (map (λ spoken. spoken.output) (all_desks rounds))
+  pub cut : AreCutRounds contents [] entries 1 rounds
+
+-- one session after the other where each round has one, and else in rounds
+pub record AreCutOver (old new : View) (names : Names) (contents : Contents) (entries : List Entry) : Type 0 where
+  pub in_order : have_one_pair_each names.rounds ≡ true → AreCut old new contents 1 [] names.pairs entries
+  pub in_rounds : have_one_pair_each names.rounds ≡ false → AreCutInRounds old new names contents entries
+
 pub record IsShortOver (old new : View) (names : Names) (contents : Contents) (entries : List Entry) : Type 0 where
   pub legal : IsLegal contents entries
   pub journal_is : new.held names.journal ≡ Some (journal_text entries)
-  pub outputs : AreCut old new contents 1 [] names.pairs entries
+  pub outputs : AreCutOver old new names contents entries
 
 -- runs -----------------------------------------------------------------------------------------------------------------------
 
@@ -91,7 +116,7 @@ pub record HasRunOver (old new : View) (names : Names) (contents : Contents) (en
   pub cause : HasCause old new outcome
   pub not_of_base : IsOfBase names outcome → ⊥
   pub opened : (failed : List ℕ) → outcome ≡ NotOpened failed → Tells old → (name : List ℕ) → IsKeptOrEmpty (old.held name) (new.held name)
-  pub counted : (totals : Totals) → outcome ≡ Done totals → totals.entries ≡ length entries
+  pub totals : (totals : Totals) → outcome ≡ Done totals → AreTotals names entries totals
   pub done : (totals : Totals) → outcome ≡ Done totals → Tells old → IsDoneOver old new names contents entries
   pub limit : (session : ℕ) → outcome ≡ TooLong session → Tells old → IsTooLongIn old names session
   pub cut : IsCut names outcome → Tells old → (Rose (old.writes names.journal) (new.writes names.journal) → ⊥) → IsShortOver old new names contents entries
@@ -116,7 +141,7 @@ pub record IsDone (old new : View) (names : Names) (totals : Totals) : Type 0 wh
   pub contents : Contents
   pub base_is : ReadsTo old names contents
   pub entries : List Entry
-  pub counted : totals.entries ≡ length entries
+  pub totals_are : AreTotals names entries totals
   pub run : IsDoneOver old new names contents entries
 
 pub record IsShort (old new : View) (names : Names) : Type 0 where

@@ -1,15 +1,14 @@
 -- Which command lines are served so far.
-use Rattle.std.specs.Prelude.{Option, Some, None, if◌then◌else◌}
-use Rattle.program_words.specs.Rounds.{have_one_pair_each}
+use Rattle.std.specs.Prelude.{Option, Some, None}
 use Rattle.program_words.specs.declared.program.Program.{Program}
 use Rattle.program_words.specs.declared.program.Program.TheVariants as program
 use Rattle.program_words.specs.declared.program.Still.TheVariants as still
 use Rattle.response_program.specs.declared.asked.Asked.{Asked}
 use Rattle.response_program.specs.declared.asked.Asked.TheVariants as asked
 
--- what a command line asks for that is served: a run whose sessions come one after the other, and the making of a base and an input
+-- what a command line asks for that is served: a run, and the making of a base and an input
 abbrev pub served_by : Program → Option Asked
-served_by (program.Run run) = if have_one_pair_each run.rounds then Some (asked.Run run) else None
+served_by (program.Run run) = Some (asked.Run run)
 served_by (program.Still (still.Make parts start base input)) = Some (asked.Make (record { parts = parts; start = start; base = base; input = input }))
 served_by _ = None
 

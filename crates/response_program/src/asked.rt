@@ -8,7 +8,7 @@ use program_words::{Program, RunWords, Still};
 /// What is served.
 #[derive(Drop)]
 pub enum Asked<'a> {
-    /// Sessions over a base, one after the other.
+    /// Sessions over a base.
     Run(RunWords<'a>),
     /// A base and an input.
     Make(Making<'a>),
@@ -20,13 +20,7 @@ impl<'a> Asked<'a> {
         ensures { result ≡ served_by program.entry }
     {
         match program {
-            Program::Run(run) => {
-                if run.rounds.have_one_pair_each() {
-                    Some(Asked::Run(run))
-                } else {
-                    None
-                }
-            }
+            Program::Run(run) => Some(Asked::Run(run)),
             Program::Still(still) => match still {
                 Still::Make {
                     parts,

@@ -1,20 +1,22 @@
 //! The desk of a session: the files of a pair, opened.
-ghost use Rattle.std.specs.Prelude.{◌≡◌, ◌≤◌, [], IfOk, IfErr};
+ghost use Rattle.std.specs.Prelude.{◌≡◌, ◌≤◌, [], None, IfOk, IfErr};
 ghost use Rattle.plan_schema.specs.Base.{is_base};
 ghost use Rattle.response_program.specs.Names.{pair_of};
 ghost use Rattle.response_program.specs.Outcomes.{outcome_of};
 ghost use Rattle.response_program.specs.Views.{view};
+ghost use Rattle.response_program.specs.InRounds.{desk_at};
 ghost use Rattle.response_program.specs.Desks.{IsOpened, IsUnopened, IsGivenBack, HasServed};
 
 use crate::ending::Ending;
 use crate::files::Pair;
-use byte_lines::{Served, Shelf, Sink, Source};
+use byte_lines::{Desk, Served, Shelf, Sink, Source};
 use plan_book::Book;
 use sessions::serve_alone;
 use std::alloc::Global;
 use std::marker::Model;
 
 /// A desk: the names of a session's files, and what a shelf gave out under them.
+#[derive(Drop)]
 pub struct OpenDesk<'a, S: Source, K: Sink> {
     pair: Pair<'a>,
     source: S,
@@ -46,6 +48,40 @@ impl<'a, S: Source, K: Sink> OpenDesk<'a, S, K> {
         ensures { pair_of result ≡ self.now.pair }
     {
         self.pair
+    }
+
+    /// As a desk of a round, which knows no names.
+    pub fn into_desk(self) -> Desk<S, K>
+        ensures view { self.entry
+            ≡ desk_at S.left S.faults K.taken K.faults self.entry.pair result }
+        ensures source { S.label result.source ≡ self.entry.pair.input }
+        ensures sink { K.label result.sink ≡ self.entry.pair.output }
+        ensures unserved { result.served ≡ None }
+    {
+        let OpenDesk {
+            pair: _,
+            source,
+            sink,
+        } = self;
+        Desk {
+            source,
+            sink,
+            served: None,
+        }
+    }
+
+    /// A desk of a round, with the names of its files.
+    pub fn named(pair: Pair<'a>, desk: Desk<S, K>) -> OpenDesk<'a, S, K>
+        requires source { S.label desk.source ≡ pair.input.now }
+        requires sink { K.label desk.sink ≡ pair.output.now }
+        ensures { result ≡ desk_at S.left S.faults K.taken K.faults (pair_of pair.entry) desk }
+    {
+        let Desk {
+            source,
+            sink,
+            served: _,
+        } = desk;
+        OpenDesk { pair, source, sink }
     }
 }
 
@@ -82,8 +118,8 @@ pub fn open_desk<'a, H: Shelf>(
 
 /// Gives the files of a desk back.
 pub fn close_desk<H: Shelf>(desk: OpenDesk<'_, H::In, H::Out>, shelf: &mut H)
-    ensures { IsGivenBack (view H.held H.open_faults H.read_faults H.write_faults shelf.old) desk.entry
-        (view H.held H.open_faults H.read_faults H.write_faults shelf.new) }
+    ensures { IsGivenBack (view H.held H.open_faults H.read_faults H.write_faults shelf.old)
+        desk.entry (view H.held H.open_faults H.read_faults H.write_faults shelf.new) }
 {
     let OpenDesk { pair, source, sink } = desk;
     shelf.give_out(pair.output, sink);

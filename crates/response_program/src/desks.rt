@@ -1,10 +1,12 @@
 //! The desks of a run: opened in order, served one after the other, and closed.
-ghost use Rattle.std.specs.Prelude.{◌≡◌, ◌≤◌, ◌+◌, ◌-◌, ◌++◌, ◌∷◌, [], map, length, option_map, List, OnOk, IfErr};
+ghost use Rattle.std.specs.Prelude.{◌≡◌, ◌≤◌, ◌+◌, ◌-◌, ◌++◌, ◌∷◌, [], map, length, option_map};
+ghost use Rattle.std.specs.Prelude.{List, OnOk, IfErr};
 ghost use Rattle.std.specs.VecDeque.{deque_len, deque_capacity};
 ghost use Rattle.program_words.specs.Rounds.{pair_of};
 ghost use Rattle.response_program.specs.Outcomes.{outcome_of};
 ghost use Rattle.response_program.specs.Views.{view};
-ghost use Rattle.response_program.specs.Desks.{DeskView, Opens, StopsOpening, AreGivenBack, IsOneServed, AreDone};
+ghost use Rattle.response_program.specs.Desks.{DeskView, Opens, StopsOpening, AreGivenBack};
+ghost use Rattle.response_program.specs.Desks.{IsOneServed, AreDone};
 
 use crate::desk::{OpenDesk, close_desk, open_desk, serve_desk};
 use crate::ending::Ending;
@@ -24,12 +26,15 @@ pub fn open_desks<'a, H: Shelf>(
     requires { length pairs.now ≤ deque_capacity waiting.old - deque_len waiting.old }
     ensures ok { OnOk result ((opened : List DeskView)
         × (waiting.new.items ≡ waiting.old.items ++ opened)
-        × Opens (view H.held H.open_faults H.read_faults H.write_faults shelf.old) (map pair_of pairs.now) opened
+        × Opens (view H.held H.open_faults H.read_faults H.write_faults shelf.old)
+        (map pair_of pairs.now) opened
         (view H.held H.open_faults H.read_faults H.write_faults shelf.new)) }
     ensures err { IfErr result (λ ending. (opened : List DeskView)
         × (waiting.new.items ≡ waiting.old.items ++ opened)
-        × StopsOpening (view H.held H.open_faults H.read_faults H.write_faults shelf.old) (map pair_of pairs.now) opened (outcome_of ending)
+        × StopsOpening (view H.held H.open_faults H.read_faults H.write_faults shelf.old)
+        (map pair_of pairs.now) opened (outcome_of ending)
         (view H.held H.open_faults H.read_faults H.write_faults shelf.new)) }
+    ensures room { deque_capacity waiting.old ≤ deque_capacity waiting.new }
 {
     match pairs.split_first() {
         None => Ok(()),
@@ -59,8 +64,8 @@ fn put_desk<'a, S: Source, K: Sink>(
     }
 }
 
-/// Serves the sessions of desks one after the other, the first with this number, up to the first that doesn't end, and gives back all
-/// files. Answers why that one didn't end.
+/// Serves the sessions of desks one after the other, the first with this number, up to the first that doesn't end, and gives back
+/// all files. Answers why that one didn't end.
 pub fn serve_desks<'a, H: Shelf>(
     alloc: Global,
     session: u64,
@@ -74,8 +79,9 @@ pub fn serve_desks<'a, H: Shelf>(
     ensures base { book.new.base ≡ book.old.base }
     ensures first { book.new.earlier ≡ [] }
     ensures none { deque_len waiting.new ≡ 0 }
-    ensures done { AreDone book.old.base session book.old.entries book.new.entries waiting.old.items
-        (option_map outcome_of result) (view H.held H.open_faults H.read_faults H.write_faults shelf.old)
+    ensures done { AreDone book.old.base session book.old.entries book.new.entries
+        waiting.old.items (option_map outcome_of result)
+        (view H.held H.open_faults H.read_faults H.write_faults shelf.old)
         (view H.held H.open_faults H.read_faults H.write_faults shelf.new) }
 {
     match waiting.pop_front() {
@@ -117,7 +123,8 @@ fn serve_one<'a, S: Source, K: Sink>(
 /// Gives the files of desks back.
 pub fn close_desks<H: Shelf>(waiting: &mut VecDeque<OpenDesk<'_, H::In, H::Out>>, shelf: &mut H)
     ensures none { deque_len waiting.new ≡ 0 }
-    ensures given { AreGivenBack (view H.held H.open_faults H.read_faults H.write_faults shelf.old) waiting.old.items
+    ensures given { AreGivenBack
+        (view H.held H.open_faults H.read_faults H.write_faults shelf.old) waiting.old.items
         (view H.held H.open_faults H.read_faults H.write_faults shelf.new) }
 {
     match waiting.pop_front() {

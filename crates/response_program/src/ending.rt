@@ -1,5 +1,6 @@
 //! How a command ends.
-ghost use Rattle.std.specs.Prelude.{◌≡◌, ◌≢◌, ◌≤◌, ◌∷◌, ◌++◌, [], length, option_map, unwrap_or};
+ghost use Rattle.std.specs.Prelude.{◌≡◌, ◌≢◌, ◌≤◌, ◌+◌, ◌∷◌, ◌++◌, [], length, option_map, unwrap_or};
+ghost use Rattle.row_text.specs.Spelling.{spaced};
 ghost use Rattle.plan_schema.specs.Outside.{Wrote};
 ghost use Rattle.response_program.specs.Outcomes as spec;
 ghost use Rattle.response_program.specs.Names.{pair_of};
@@ -14,11 +15,11 @@ use plan_make::MakeFault;
 use plan_walk::Tally;
 use row_text::{RowText, push_number, push_word};
 
-/// What a run came to: how many entries its journal has, and how much was netted, reused and dropped.
+/// What a run came to: how many entries its journal has, and how much was netted, reused and dropped, where that is told.
 #[derive(Clone, Copy)]
 pub struct Totals {
     pub entries: u64,
-    pub work: Tally,
+    pub work: Option<Tally>,
 }
 
 /// How a command ends, with the name of the file that failed.
@@ -27,6 +28,7 @@ pub enum Ending<'a> {
     Done(Totals),
     /// A base and an input of so many parts are made.
     Made(u32),
+    /// There was no memory, or no turn was left.
     Memory,
     Base(ImportFault),
     Open(&'a str),
@@ -193,14 +195,25 @@ fn done_line(totals: &Totals) -> RowText
     let mut text = RowText::new();
     let _ = text.try_extend_from_slice(b"entries");
     push_number(&mut text, totals.entries);
-    push_word(&mut text, b"netted");
-    push_number(&mut text, totals.work.netted);
-    push_word(&mut text, b"reused");
-    push_number(&mut text, totals.work.reused);
-    push_word(&mut text, b"dropped");
-    push_number(&mut text, totals.work.dropped);
+    push_work(&mut text, totals.work);
     let _ = text.try_push(b'\n');
     text
+}
+
+/// Puts what was netted, reused and dropped behind a text, where it is told.
+fn push_work(text: &mut RowText, work: Option<Tally>)
+    requires { array_vec_len text.old ≤ 100 }
+    ensures items { text.new.items ≡ text.old.items ++ spaced (spec.work_words work) }
+    ensures len { array_vec_len text.new ≤ array_vec_len text.old + 90 }
+{
+    if let Some(work) = work {
+        push_word(text, b"netted");
+        push_number(text, work.netted);
+        push_word(text, b"reused");
+        push_number(text, work.reused);
+        push_word(text, b"dropped");
+        push_number(text, work.dropped);
+    }
 }
 
 /// The line for a base that was refused.

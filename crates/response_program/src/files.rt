@@ -3,7 +3,7 @@ ghost use Rattle.std.specs.Prelude.{◌≡◌};
 ghost use Rattle.program_words.specs.Rounds as words;
 ghost use Rattle.response_program.specs.Names.{pair_of, files_of, names_of};
 
-use program_words::{PlacedPair, RunWords};
+use program_words::{Pairs, PlacedPair, RunWords};
 
 /// The names of a session's files.
 #[derive(Clone, Copy)]
@@ -24,24 +24,23 @@ impl<'a> Pair<'a> {
     }
 }
 
-/// The names of a run's files: the base, the journal, and pairs in the order of their sessions.
+/// The names of a run's files: the base, the journal, and pairs in rounds.
 #[derive(Clone, Copy)]
 pub struct RunFiles<'p, 'a> {
     pub base: &'a str,
     pub journal: &'a str,
-    pub pairs: &'p [PlacedPair<'a>],
+    pub rounds: &'p Pairs<'a>,
 }
 
 impl<'p, 'a> RunFiles<'p, 'a> {
     /// The names that a command line gives.
-    #[tactic(auto, using(crate::proofs::Asking::same_pairs))]
     pub fn of(run: &'p RunWords<'a>) -> RunFiles<'p, 'a>
         ensures { files_of result ≡ names_of run.entry.now }
     {
         RunFiles {
             base: run.base.as_str(),
             journal: run.journal.as_str(),
-            pairs: run.rounds.pairs(),
+            rounds: &run.rounds,
         }
     }
 }

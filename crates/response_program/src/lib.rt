@@ -7,6 +7,7 @@ mod desk;
 mod desks;
 mod ending;
 mod files;
+mod in_rounds;
 mod making;
 mod run;
 

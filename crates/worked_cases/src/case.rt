@@ -5,6 +5,8 @@ use byte_lines::{Calls, MemoryShelf, NamedCalls};
 use plan_schema::Series;
 use response_program::response;
 use std::alloc::{AllocError, Global};
+use std::sync::Wait;
+use std::thread::Threads;
 
 /// The name of the console.
 const CONSOLE: &str = "-";
@@ -98,12 +100,16 @@ impl Case {
     }
 
     /// Runs the case, and reports what it comes to.
-    pub fn run(self, report: &mut Vec<u8>) -> Result<(), AllocError> {
+    pub fn run<R: Threads + Wait + Sync>(
+        self,
+        rt: &R,
+        report: &mut Vec<u8>,
+    ) -> Result<(), AllocError> {
         let mut shelf = MemoryShelf::new(self.alloc, self.opens, self.calls);
         for file in &self.files {
             shelf.put(file.name.as_str(), file.bytes.as_slice())?;
         }
-        let status = response(self.alloc, self.words.as_slice(), &mut shelf);
+        let status = response(rt, self.alloc, self.words.as_slice(), &mut shelf);
         if let Some(name) = &self.name {
             show_text(report, "case", name.as_str())?;
         }

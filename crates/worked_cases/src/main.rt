@@ -10,6 +10,8 @@ use case::Case;
 use directive::Directive;
 use std::alloc::AllocError;
 use std::io::{self, BufRead, BufReader, Write};
+use std::sync::Wait;
+use std::thread::Threads;
 
 fn main(rt: HostRuntime) -> io::Result<()> {
     let alloc = rt.alloc();
@@ -19,20 +21,24 @@ fn main(rt: HostRuntime) -> io::Result<()> {
         let line = line?;
         let directive = Directive::read(line.as_str());
         if let Directive::Case(name) = directive {
-            finish(&mut report, case)?;
+            finish(&rt, &mut report, case)?;
             case = Case::named(alloc, name)?;
         } else {
             case.add(directive)?;
         }
     }
-    finish(&mut report, case)?;
+    finish(&rt, &mut report, case)?;
     io::writer(&rt).write_all(report.as_slice())
 }
 
 /// Runs a case that has a name.
-fn finish(report: &mut Vec<u8>, case: Case) -> Result<(), AllocError> {
+fn finish<R: Threads + Wait + Sync>(
+    rt: &R,
+    report: &mut Vec<u8>,
+    case: Case,
+) -> Result<(), AllocError> {
     if case.is_begun() {
-        case.run(report)?;
+        case.run(rt, report)?;
     }
     Ok(())
 }

@@ -1,10 +1,11 @@
-use Rattle.std.proofs.Common.{◌≡◌, sym, ◌∙◌, ap}
+use Rattle.std.proofs.Common.{◌≡◌, [], ◌∷◌, inl, refl, sym, ◌∙◌, ap}
 use Rattle.std.specs.Prelude.{Some, None}
 use Rattle.plan_schema.specs.declared.key.Key.TheVariants as keys
 use Rattle.plan_schema.specs.Contents.{record_at}
 use Rattle.walk_rules.specs.Cells.{records}
 use Rattle.session_rules.specs.Costs.{part_costs, no_costs}
 use Rattle.session_rules.specs.Answers.{costs_lines, query_reply}
+use Rattle.part_pegs.proofs.OwnPegs.{asked_planned}
 use Rattle.plan_answer.proofs.Costing.{own_cell, part_row}
 use Rattle.plan_answer.proofs.costs.cost_reply.Goals as goal
 
@@ -27,3 +28,7 @@ returns-in-None g c =
     let row = part_row c.args.job.now.wanted c.args.job.now.cells part (g.P.Plans.plans c.args.plans.now) c.requires.job c.requires.planned c.part_cell-cell.result.now c.part_cell-cell.ensures in
     let costs : None ≡ part_costs (record_at contents (keys.Part part)) = sym c.in-None.is ∙ c.part_costs.ensures.value ∙ ap part_costs row in
     λ i. query_reply c.args.job.now.point (no_costs part (costs i)) (costs_lines contents part)
+
+pub part_cell-cell-requires-clause-planned : goal.part_cell-cell-requires-clause-planned
+part_cell-cell-requires-clause-planned g c =
+    asked_planned (records c.args.job.now.cells) (c.args.part.now ∷ []) (g.P.Plans.plans c.args.plans.now) c.args.part.now c.requires.planned (inl refl)

@@ -1,10 +1,7 @@
-use Rattle.std.proofs.Common.{◌≡◌, ◌+◌, ◌<◌, ◌≤◌, ◌∷◌, length, map, sym, ◌∙◌, ap, subst, ℕ, List}
+use Rattle.std.proofs.Common.{◌≡◌, ◌≤◌, ◌∷◌, length, map, sym, ◌∙◌, ap, subst, ℕ, List}
 use Rattle.std.specs.Prelude.{IfOk}
-use Rattle.planning_rules.specs.BestLots.{needs}
-use Rattle.planning_rules.specs.Days.{days_of}
 use Rattle.walk_rules.specs.Cells.{records}
-use Rattle.lot_optimal.specs.Costs.{rows_of}
-use Rattle.session_rules.specs.Costs.{unplanned_shortages, total_line, cost_line}
+use Rattle.session_rules.specs.Costs.{total_line, cost_line}
 use Rattle.plan_answer.proofs.Costing.{own_cell, plan_is, gross_long, gross_small, sched_long, sched_told, orders_told, lines_told, needs_in_days}
 use Rattle.plan_answer.proofs.costs.lines_of_part.Goals as goal
 

@@ -3,7 +3,7 @@ use Rattle.plan_jobs.specs.declared.job.Job.{Job}
 use Rattle.plan_jobs.specs.Jobs.{asked_by}
 use Rattle.walk_rules.specs.Cells.{records}
 use Rattle.walk_rules.specs.Walks.{known_at}
-use Rattle.plan_answer.specs.Planned.{ArePlanned}
+use Rattle.part_pegs.specs.Planned.{ArePlanned}
 use Rattle.plan_answer.proofs.Settled.{all_planned}
 use Rattle.plan_answer.proofs.walks.from_settled.Goals as goal
 

@@ -10,18 +10,18 @@ use Rattle.response_program.proofs.Memory.{no_memory}
 use Rattle.response_program.proofs.run.response.Goals as goal
 
 pub run_told-requires-clause-memo : goal.run_told-requires-clause-memo
-run_told-requires-clause-memo g c = (asked_told (map string_bytes c.args.words.now) c.in-Ok.program c.in-Some-Run.run' c.in-Ok.ensures.ok (sym (ap Some c.in-Some-Run.field-0-is) ∙ c.in-Some-Run.ensures)).memo_some
+run_told-requires-clause-memo g c κs within = (asked_told (map string_bytes c.args.words.now) c.in-Ok.program c.in-Some-Run.run' c.in-Ok.ensures.ok (sym (ap Some c.in-Some-Run.field-0-is) ∙ c.in-Some-Run.ensures)).memo_some
 
 pub run_told-requires-clause-most : goal.run_told-requires-clause-most
-run_told-requires-clause-most g c = (asked_told (map string_bytes c.args.words.now) c.in-Ok.program c.in-Some-Run.run' c.in-Ok.ensures.ok (sym (ap Some c.in-Some-Run.field-0-is) ∙ c.in-Some-Run.ensures)).memo_most
+run_told-requires-clause-most g c κs within = (asked_told (map string_bytes c.args.words.now) c.in-Ok.program c.in-Some-Run.run' c.in-Ok.ensures.ok (sym (ap Some c.in-Some-Run.field-0-is) ∙ c.in-Some-Run.ensures)).memo_most
 
 pub run_told-requires-clause-pairs : goal.run_told-requires-clause-pairs
-run_told-requires-clause-pairs g c =
+run_told-requires-clause-pairs g c κs within =
     subst (λ (names : Names). length names.pairs ≤ PAIR_LIMIT) (sym c.of-in-Some-Run.ensures)
     (asked_told (map string_bytes c.args.words.now) c.in-Ok.program c.in-Some-Run.run' c.in-Ok.ensures.ok (sym (ap Some c.in-Some-Run.field-0-is) ∙ c.in-Some-Run.ensures)).few
 
 pub run_told-requires-clause-differ : goal.run_told-requires-clause-differ
-run_told-requires-clause-differ g c =
+run_told-requires-clause-differ g c κs within =
     subst Differ (sym c.of-in-Some-Run.ensures)
     (told_differ c.in-Some-Run.run' (asked_told (map string_bytes c.args.words.now) c.in-Ok.program c.in-Some-Run.run' c.in-Ok.ensures.ok (sym (ap Some c.in-Some-Run.field-0-is) ∙ c.in-Some-Run.ensures)))
 

@@ -8,7 +8,7 @@ use Rattle.response_program.specs.Names.{files_of, console}
 use Rattle.response_program.proofs.Chains.{opened, gave_out, both_fell, cause_later, cause_after}
 use Rattle.response_program.proofs.Named.{kept_then}
 use Rattle.response_program.proofs.Endings.{written_done, written_long, written_refused, written_of_base, written_opened, written_cause, written_told, written_cut}
-use Rattle.response_program.proofs.Headline.{done_over, short_over, too_long_over, made_tells}
+use Rattle.response_program.proofs.Headline.{all_done_over, short_over, too_long_over, made_tells}
 use Rattle.response_program.proofs.run.run_told.Goals as goal
 
 pub returns : goal.returns
@@ -39,7 +39,7 @@ returns g c =
           kept_then (inl (c.make_out.ensures.others name other))
           (kept_then (c.run-ending.ensures.opened failed (written_opened outcome console written failed is) (tells_mid tells c.make_out.ensures.here c.make_out.ensures.others) name) (inl (telling.others name other)));
       done = λ totals is tells.
-          done_over console old mid late new c.make_out.ensures.others telling.others names apart.no_console apart.journal_console apart.base_console totals
+          all_done_over console old mid late new c.make_out.ensures.others telling.others names apart.no_console apart.journal_console apart.base_console totals
           (c.run-ending.ensures.done totals (written_done outcome console written totals is).0 (tells_mid tells c.make_out.ensures.here c.make_out.ensures.others));
       limit = λ session is tells.
           too_long_over console old mid late new c.make_out.ensures.others telling.others names apart.no_console apart.journal_console apart.base_console session

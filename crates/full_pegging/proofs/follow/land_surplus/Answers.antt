@@ -1,0 +1,16 @@
+use Rattle.std.proofs.Common.{◌+◌, ◌*◌, ◌∙◌, ap, sym}
+use Rattle.std.proofs.lemmas.List.Sums.{sum_by_push}
+use Rattle.planning_rules.specs.Trace.{Surplus}
+use Rattle.full_pegging.specs.Following.{landed_weight, shown_share}
+use Rattle.full_pegging.specs.declared.share.Share.{Share}
+use Rattle.full_pegging.specs.declared.share.Share.TheVariants as shares
+use Rattle.full_pegging.proofs.Waiting.{alike}
+use Rattle.full_pegging.proofs.follow.land_surplus.Goals as goal
+
+pub returns : goal.returns
+returns c = λ measure.
+    let units = c.args.units.now in
+    let part = c.args.part.now in
+    ap (landed_weight measure) c.in_ok-push.ensures.items
+    ∙ sum_by_push (λ (share : Share). (shown_share share).1 * measure (shown_share share).0) c.args.landed.now.items (shares.Surplus part (units.times * units.many))
+    ∙ ap (λ w. landed_weight measure c.args.landed.now.items + w) (sym (alike (measure (Surplus part)) units.first units.many units.times))

@@ -1,0 +1,3 @@
+pub mod Planned
+pub mod ParentLists
+pub mod Held

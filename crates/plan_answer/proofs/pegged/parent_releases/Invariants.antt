@@ -1,5 +1,0 @@
-use Rattle.plan_answer.proofs.ParentLists.{AreListed}
-use Rattle.plan_answer.proofs.pegged.parent_releases.Given as goal
-
-abbrev pub invariant-loop-key : goal.invariant-loop-key
-invariant-loop-key g l = AreListed (g.P.Plans.plans l.plans) l.cell l.key-iterator l.releases.items

@@ -2,8 +2,9 @@
 ghost use Rattle.std.specs.Prelude.{◌≡◌, ◌≤◌, true, [], IfOk, IfErr};
 ghost use Rattle.std.specs.List.{list_all};
 ghost use Rattle.plan_schema.specs.Sound.{is_sound_entry};
+ghost use Rattle.scenario_rules.specs.Refused.{refused};
 ghost use Rattle.scenario_rules.specs.Whole.{AreWholeContents, AreWithinLimits};
-ghost use Rattle.plan_core.specs.State.{begin_state};
+ghost use Rattle.plan_core.specs.State.{begin_state, history};
 ghost use Rattle.plan_core.specs.Behind.{HasEntered, IsNoCore};
 ghost use Rattle.plan_book.specs.Faults.{book_answer};
 
@@ -14,7 +15,7 @@ use command_words::Lines;
 use plan_core::{BehindFault, Core};
 use plan_jobs::{Job, Wanted};
 use plan_journal::Journal;
-use plan_schema::{Change, Contents, Entry, Name};
+use plan_schema::{Change, Contents, Entry, Name, Refusal};
 use plan_walk::{Round, Solved, Tally, Trouble, Walk};
 use std::alloc::{AllocError, Global};
 use std::marker::Model;
@@ -65,6 +66,13 @@ impl Book {
     {
         let core = Core::behind(alloc, contents, most, earlier)?;
         Ok(Book { core })
+    }
+
+    /// Why a change of a user would be refused: the first of the rules that applies. Enters nothing, and takes no memory.
+    pub fn refusal(&self, user: &Name, change: &Change) -> Option<Refusal>
+        ensures { result ≡ refused self.now.base (history self.now) user.now change.now }
+    {
+        self.core.refusal(user, change)
     }
 
     /// The entries that were made since the book began.

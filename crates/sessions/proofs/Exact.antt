@@ -45,7 +45,7 @@ module _ (base : Contents) (entries : List Entry) (user : Name) (command : Comma
       by_reply replies.Mem right same = absurd same
 
 -- a greeting, the point and the end
-no_memory_answer : (base : Contents) (entries : List Entry) (user : Name) (command : Command) → needs_no_memory command ≡ true → answer base entries user command ≡ Some (replies.Ok (length entries))
+pub no_memory_answer : (base : Contents) (entries : List Entry) (user : Name) (command : Command) → needs_no_memory command ≡ true → answer base entries user command ≡ Some (replies.Ok (length entries))
 unfolding answer
 no_memory_answer base entries user (commands.Hello name) none = refl
 no_memory_answer base entries user commands.Point none = refl

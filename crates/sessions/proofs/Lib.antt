@@ -9,3 +9,4 @@ pub mod OwnBook
 pub mod OwnCalls
 pub mod TurnSession
 pub mod TurnCalls
+pub mod AtBook

@@ -47,7 +47,7 @@ pub fn reply_to_command<T: Reach>(
 }
 
 /// The answer to a command for which there may be no memory.
-fn answer<T: Reach>(
+pub(crate) fn answer<T: Reach>(
     alloc: Global,
     reach: &T,
     state: &mut T::State,

@@ -4,6 +4,7 @@
 
 mod alone;
 mod answering;
+mod asked;
 mod change;
 mod command;
 mod in_turns;
@@ -13,5 +14,6 @@ mod serving;
 mod terms;
 mod walking;
 
+pub use asked::answer_at;
 pub use byte_lines::Served;
 pub use serving::{serve, serve_alone};

@@ -13,10 +13,5 @@ fn main(rt: HostRuntime) -> io::Result<ExitCode> {
         let _ = words.remove(0);
     }
     let mut shelf = FileShelf::new(alloc, &rt);
-    Ok(ExitCode::from(response(
-        &rt,
-        alloc,
-        words.as_slice(),
-        &mut shelf,
-    )))
+    Ok(ExitCode::from(response(&rt, alloc, words.as_slice(), &mut shelf)))
 }

@@ -16,5 +16,3 @@ pub mod LegalRuns
 pub mod Itself
 pub mod SoundReplies
 pub mod SoundRuns
-pub mod Rows
-pub mod Entered

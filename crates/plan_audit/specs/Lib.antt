@@ -7,5 +7,4 @@ pub mod Causes
 pub mod Ahead
 pub mod Buffers
 pub mod Replies
-pub mod Standing
 pub use Rattle.plan_schema.specs.Outside

@@ -5,9 +5,6 @@ mod ahead;
 mod form;
 mod laws;
 mod replies;
-mod same;
-mod standing;
-mod telling;
 mod verdict;
 
 pub use form::ReplyForm;

@@ -1,5 +1,6 @@
 //! One row at a time.
-ghost use Rattle.std.specs.Prelude.{◌≡◌, ◌+◌, ◌*◌, ◌-◌, ◌<◌, ◌≤◌, ◌^◌, ℕ, List, true, length, All, slice_index};
+ghost use Rattle.std.specs.Prelude.{◌≡◌, ◌+◌, ◌*◌, ◌-◌, ◌<◌, ◌≤◌};
+ghost use Rattle.std.specs.Prelude.{◌^◌, ℕ, List, true, length, All, slice_index};
 ghost use Rattle.plan_schema.specs.Sound.{is_sound_row};
 ghost use Rattle.planning_rules.specs.Bills.{is_effective};
 ghost use Rattle.explosion.specs.Sums.{order_adds, bill_adds, row_adds, receipt_adds, bill_count, list_at, AreReleases};

@@ -1,5 +1,6 @@
 //! Units followed from a part to where they end, or to its parents.
-ghost use Rattle.std.specs.Prelude.{◌≡◌, ◌+◌, ◌-◌, ◌*◌, ◌/◌, ◌≤◌, ◌<◌, ◌^◌, ℕ, length, OnOk, slice_get, slice_index};
+ghost use Rattle.std.specs.Prelude.{◌≡◌, ◌+◌, ◌-◌, ◌*◌, ◌/◌, ◌≤◌};
+ghost use Rattle.std.specs.Prelude.{◌<◌, ◌^◌, ℕ, length, OnOk, slice_get, slice_index};
 ghost use Rattle.std.specs.Prelude.{slice_index_or};
 ghost use Rattle.planning_rules.specs.Trace.{End, AtDemand, Surplus};
 ghost use Rattle.full_pegging.specs.Weights.{weight, spread_weight};

@@ -1,5 +1,6 @@
 //! The levels of places.
-ghost use Rattle.std.specs.Prelude.{◌≡◌, ◌<◌, ◌≤◌, ◌^◌, ◌⊎◌, ℕ, None, Some, map, length, slice_get, IfOk, IfSome};
+ghost use Rattle.std.specs.Prelude.{◌≡◌, ◌<◌, ◌≤◌, ◌^◌, ◌⊎◌, ℕ};
+ghost use Rattle.std.specs.Prelude.{None, Some, map, length, slice_get, IfOk, IfSome};
 ghost use Rattle.std.specs.List.{AllByRecursion};
 ghost use Rattle.planning_rules.specs.Bills.{above_all};
 ghost use Rattle.low_level_codes.specs.Graphs.{shown, level_at, IsAt, AreWithin, AreTurned, HasSteps};

@@ -1,5 +1,6 @@
 //! The days of a horizon that work.
-ghost use Rattle.std.specs.Prelude.{◌≡◌, ◌==◌, ◌+◌, ◌<◌, ◌≤◌, ◌&&◌, ℕ, not, [], length, replicate, slice_index_or};
+ghost use Rattle.std.specs.Prelude.{◌≡◌, ◌==◌, ◌+◌, ◌<◌, ◌≤◌, ◌&&◌};
+ghost use Rattle.std.specs.Prelude.{ℕ, not, [], length, replicate, slice_index_or};
 ghost use Rattle.std.specs.Prelude.{true, false};
 ghost use Rattle.planning_rules.specs.Days.{back, works_on};
 ghost use Rattle.plan_calendar.specs.Weeks.{week_works, worked_days};

@@ -1,5 +1,6 @@
 //! What a core answers to a change, and what is of it then.
-ghost use Rattle.std.specs.Prelude.{◌≡◌, ◌≤◌, ◌+◌, ◌||◌, nat_le, nat_lt, ◌++◌, ◌∷◌, [], true, Some, None, Err};
+ghost use Rattle.std.specs.Prelude.{◌≡◌, ◌≤◌, ◌+◌, ◌||◌, nat_le, nat_lt};
+ghost use Rattle.std.specs.Prelude.{◌++◌, ◌∷◌, [], true, Some, None, Err};
 ghost use Rattle.std.specs.Prelude.{IfOk, IfErr, OnOk, OnErr, IsOk};
 ghost use Rattle.plan_schema.specs.declared.limits.TheConstants.{ENTRY_LIMIT, CARRIED_LIMIT};
 ghost use Rattle.plan_schema.specs.Sound.{is_sound_change, is_sound_entry};

@@ -1,5 +1,6 @@
 //! A core: what the book of a plan keeps.
-ghost use Rattle.std.specs.Prelude.{◌≡◌, ◌≤◌, ◌+◌, ◌++◌, ◌∷◌, [], true, Some, None, IfOk, IfErr, OnOk, OnErr, IsOk};
+ghost use Rattle.std.specs.Prelude.{◌≡◌, ◌≤◌, ◌+◌, ◌++◌, ◌∷◌, [], true};
+ghost use Rattle.std.specs.Prelude.{Some, None, IfOk, IfErr, OnOk, OnErr, IsOk};
 ghost use Rattle.scenario_rules.specs.Whole.{AreWholeContents, AreWithinLimits};
 ghost use Rattle.std.specs.List.{list_all};
 ghost use Rattle.record_versions.specs.Versions.{has_id};

@@ -1,5 +1,6 @@
 //! A walk over a plan.
-ghost use Rattle.std.specs.Prelude.{◌≡◌, ◌==◌, ◌+◌, ℕ, List, [], true, length, map, Some, IfOk, IfErr, OnOk, MatchOption, slice_get};
+ghost use Rattle.std.specs.Prelude.{◌≡◌, ◌==◌, ◌+◌, ℕ, List, [], true};
+ghost use Rattle.std.specs.Prelude.{length, map, Some, IfOk, IfErr, OnOk, MatchOption, slice_get};
 ghost use Rattle.std.specs.Option.{option_copied};
 ghost use Rattle.plan_schema.specs.declared.name.Name.{Name};
 ghost use Rattle.low_level_codes.specs.Numbers.{Lacks};

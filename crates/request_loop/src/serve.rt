@@ -1,6 +1,7 @@
 //! The loop: an input is read piece by piece, its lines are served, and the replies are written.
 ghost use Rattle.byte_lines.specs.declared.rounds.Served.TheVariants as ends;
-ghost use Rattle.std.specs.Prelude.{◌≡◌, ◌≢◌, ◌⊎◌, ◌+◌, ◌≤◌, ◌∷◌, ◌++◌, [], ℕ, List, Option, false, length};
+ghost use Rattle.std.specs.Prelude.{◌≡◌, ◌≢◌, ◌⊎◌, ◌+◌, ◌≤◌, ◌∷◌};
+ghost use Rattle.std.specs.Prelude.{◌++◌, [], ℕ, List, Option, false, length};
 ghost use Rattle.std.specs.Prelude.{None, Some, Err, OnOk, option_map};
 ghost use Rattle.byte_lines.specs.Cuts.{shown};
 ghost use Rattle.byte_lines.specs.Lines.{line_of, lines_from, lines_after, no_bytes};

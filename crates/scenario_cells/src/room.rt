@@ -1,6 +1,7 @@
 //! Whether a scenario would have more parts or records than it may. No list is made: the kept counts change by what is found under the
 //! keys of the changes.
-ghost use Rattle.std.specs.Prelude.{◌≡◌, ◌≤◌, ◌<◌, ◌+◌, ◌-◌, ◌^◌, ◌&&◌, ◌∷◌, [], true, if◌then◌else◌, length};
+ghost use Rattle.std.specs.Prelude.{◌≡◌, ◌≤◌, ◌<◌, ◌+◌, ◌-◌, ◌^◌};
+ghost use Rattle.std.specs.Prelude.{◌&&◌, ◌∷◌, [], true, if◌then◌else◌, length};
 ghost use Rattle.std.specs.Prelude.{nat_lt, Option, Some, None, is_some, List, ℕ};
 ghost use Rattle.std.specs.List.{list_any};
 ghost use Rattle.std.specs.Ordering.{is_eq};

@@ -1,5 +1,6 @@
 //! The steps of a turn, each on the seat of one pass.
-ghost use Rattle.std.specs.Prelude.{◌≡◌, ◌+◌, ◌≤◌, ◌<◌, ◌^◌, true, false, cond, [], ◌∷◌, ◌++◌, length, Some, None};
+ghost use Rattle.std.specs.Prelude.{◌≡◌, ◌+◌, ◌≤◌, ◌<◌, ◌^◌, true, false};
+ghost use Rattle.std.specs.Prelude.{cond, [], ◌∷◌, ◌++◌, length, Some, None};
 ghost use Rattle.turn_table.specs.Story.{entries_of, Begins, IsAdded};
 ghost use Rattle.turn_table.specs.Rule.{fewest, most, is_numbered, is_late, size};
 ghost use Rattle.turn_table.specs.Steps.{beginner, starter, with_ticket, at_turn, with_value, with_mark};

@@ -6,7 +6,9 @@ ghost use Rattle.command_words.specs.Commands as spec;
 
 use crate::command::Command;
 use crate::query::QueryText;
+use crate::reply::Bad;
 use plan_schema::{CellName, FieldFault, Key, Name, Record, Rule};
+use query_language::check_query;
 use row_text::{day_at, end_at, is_word, name_at, number_at, read_key, read_record, text_at};
 
 /// The name that is the one field.
@@ -61,24 +63,24 @@ fn key_behind(words: &[&[u8]]) -> Result<Key, FieldFault>
 }
 
 #[tactic(auto, unfolding(crate::specs::Commands::hello_of))]
-pub(crate) fn hello<'a>(words: &[&'a [u8]]) -> Result<Command<'a>, FieldFault>
-    ensures { result ≡ spec.hello_of (texts words.now) }
+pub(crate) fn hello<'a>(words: &[&'a [u8]]) -> Result<Command<'a>, Bad>
+    ensures { result ≡ spec.in_fields (spec.hello_of (texts words.now)) }
 {
     let user = only_name(words)?;
     Ok(Command::Hello(user))
 }
 
 #[tactic(auto, unfolding(crate::specs::Commands::point_of))]
-pub(crate) fn point<'a>(words: &[&'a [u8]]) -> Result<Command<'a>, FieldFault>
-    ensures { result ≡ spec.point_of (texts words.now) }
+pub(crate) fn point<'a>(words: &[&'a [u8]]) -> Result<Command<'a>, Bad>
+    ensures { result ≡ spec.in_fields (spec.point_of (texts words.now)) }
 {
     end_at(words, 1)?;
     Ok(Command::Point)
 }
 
 #[tactic(auto, unfolding(crate::specs::Commands::put_of))]
-pub(crate) fn put<'a>(words: &[&'a [u8]]) -> Result<Command<'a>, FieldFault>
-    ensures { result ≡ spec.put_of (texts words.now) }
+pub(crate) fn put<'a>(words: &[&'a [u8]]) -> Result<Command<'a>, Bad>
+    ensures { result ≡ spec.in_fields (spec.put_of (texts words.now)) }
 {
     let scenario = name_at(words, 1)?;
     let (key, value) = row_behind(words)?;
@@ -90,8 +92,8 @@ pub(crate) fn put<'a>(words: &[&'a [u8]]) -> Result<Command<'a>, FieldFault>
 }
 
 #[tactic(auto, unfolding(crate::specs::Commands::del_of))]
-pub(crate) fn del<'a>(words: &[&'a [u8]]) -> Result<Command<'a>, FieldFault>
-    ensures { result ≡ spec.del_of (texts words.now) }
+pub(crate) fn del<'a>(words: &[&'a [u8]]) -> Result<Command<'a>, Bad>
+    ensures { result ≡ spec.in_fields (spec.del_of (texts words.now)) }
 {
     let scenario = name_at(words, 1)?;
     let key = key_behind(words)?;
@@ -99,8 +101,8 @@ pub(crate) fn del<'a>(words: &[&'a [u8]]) -> Result<Command<'a>, FieldFault>
 }
 
 #[tactic(auto, unfolding(crate::specs::Commands::load_of))]
-pub(crate) fn load<'a>(words: &[&'a [u8]]) -> Result<Command<'a>, FieldFault>
-    ensures { result ≡ spec.load_of (texts words.now) }
+pub(crate) fn load<'a>(words: &[&'a [u8]]) -> Result<Command<'a>, Bad>
+    ensures { result ≡ spec.in_fields (spec.load_of (texts words.now)) }
 {
     let scenario = name_at(words, 1)?;
     let count = number_at(words, 2, 1, 1_000)?;
@@ -112,48 +114,48 @@ pub(crate) fn load<'a>(words: &[&'a [u8]]) -> Result<Command<'a>, FieldFault>
 }
 
 #[tactic(auto, unfolding(crate::specs::Commands::branch_of))]
-pub(crate) fn branch<'a>(words: &[&'a [u8]]) -> Result<Command<'a>, FieldFault>
-    ensures { result ≡ spec.branch_of (texts words.now) }
+pub(crate) fn branch<'a>(words: &[&'a [u8]]) -> Result<Command<'a>, Bad>
+    ensures { result ≡ spec.in_fields (spec.branch_of (texts words.now)) }
 {
     let (parent, child) = two_names(words)?;
     Ok(Command::Branch { parent, child })
 }
 
 #[tactic(auto, unfolding(crate::specs::Commands::share_of))]
-pub(crate) fn share<'a>(words: &[&'a [u8]]) -> Result<Command<'a>, FieldFault>
-    ensures { result ≡ spec.share_of (texts words.now) }
+pub(crate) fn share<'a>(words: &[&'a [u8]]) -> Result<Command<'a>, Bad>
+    ensures { result ≡ spec.in_fields (spec.share_of (texts words.now)) }
 {
     let scenario = only_name(words)?;
     Ok(Command::Share(scenario))
 }
 
 #[tactic(auto, unfolding(crate::specs::Commands::update_of))]
-pub(crate) fn update<'a>(words: &[&'a [u8]]) -> Result<Command<'a>, FieldFault>
-    ensures { result ≡ spec.update_of (texts words.now) }
+pub(crate) fn update<'a>(words: &[&'a [u8]]) -> Result<Command<'a>, Bad>
+    ensures { result ≡ spec.in_fields (spec.update_of (texts words.now)) }
 {
     let scenario = only_name(words)?;
     Ok(Command::Update(scenario))
 }
 
 #[tactic(auto, unfolding(crate::specs::Commands::commit_of))]
-pub(crate) fn commit<'a>(words: &[&'a [u8]]) -> Result<Command<'a>, FieldFault>
-    ensures { result ≡ spec.commit_of (texts words.now) }
+pub(crate) fn commit<'a>(words: &[&'a [u8]]) -> Result<Command<'a>, Bad>
+    ensures { result ≡ spec.in_fields (spec.commit_of (texts words.now)) }
 {
     let scenario = only_name(words)?;
     Ok(Command::Commit(scenario))
 }
 
 #[tactic(auto, unfolding(crate::specs::Commands::drop_of))]
-pub(crate) fn drop_scenario<'a>(words: &[&'a [u8]]) -> Result<Command<'a>, FieldFault>
-    ensures { result ≡ spec.drop_of (texts words.now) }
+pub(crate) fn drop_scenario<'a>(words: &[&'a [u8]]) -> Result<Command<'a>, Bad>
+    ensures { result ≡ spec.in_fields (spec.drop_of (texts words.now)) }
 {
     let scenario = only_name(words)?;
     Ok(Command::Drop(scenario))
 }
 
 #[tactic(auto, unfolding(crate::specs::Commands::tree_of))]
-pub(crate) fn tree<'a>(words: &[&'a [u8]]) -> Result<Command<'a>, FieldFault>
-    ensures { result ≡ spec.tree_of (texts words.now) }
+pub(crate) fn tree<'a>(words: &[&'a [u8]]) -> Result<Command<'a>, Bad>
+    ensures { result ≡ spec.in_fields (spec.tree_of (texts words.now)) }
 {
     end_at(words, 1)?;
     Ok(Command::Tree)
@@ -203,8 +205,8 @@ fn part_cell(words: &[&[u8]]) -> Result<CellName, FieldFault>
 }
 
 #[tactic(auto, unfolding(crate::specs::Commands::show_of))]
-pub(crate) fn show<'a>(words: &[&'a [u8]]) -> Result<Command<'a>, FieldFault>
-    ensures { result ≡ spec.show_of (texts words.now) }
+pub(crate) fn show<'a>(words: &[&'a [u8]]) -> Result<Command<'a>, Bad>
+    ensures { result ≡ spec.in_fields (spec.show_of (texts words.now)) }
 {
     let scenario = name_at(words, 1)?;
     let word = text_at(words, 2)?;
@@ -213,24 +215,24 @@ pub(crate) fn show<'a>(words: &[&'a [u8]]) -> Result<Command<'a>, FieldFault>
 }
 
 #[tactic(auto, unfolding(crate::specs::Commands::level_of))]
-pub(crate) fn level<'a>(words: &[&'a [u8]]) -> Result<Command<'a>, FieldFault>
-    ensures { result ≡ spec.level_of (texts words.now) }
+pub(crate) fn level<'a>(words: &[&'a [u8]]) -> Result<Command<'a>, Bad>
+    ensures { result ≡ spec.in_fields (spec.level_of (texts words.now)) }
 {
     let (scenario, part) = two_names(words)?;
     Ok(Command::Level { scenario, part })
 }
 
 #[tactic(auto, unfolding(crate::specs::Commands::plan_of))]
-pub(crate) fn plan<'a>(words: &[&'a [u8]]) -> Result<Command<'a>, FieldFault>
-    ensures { result ≡ spec.plan_of (texts words.now) }
+pub(crate) fn plan<'a>(words: &[&'a [u8]]) -> Result<Command<'a>, Bad>
+    ensures { result ≡ spec.in_fields (spec.plan_of (texts words.now)) }
 {
     let (scenario, part) = two_names(words)?;
     Ok(Command::Plan { scenario, part })
 }
 
 #[tactic(auto, unfolding(crate::specs::Commands::peg_of))]
-pub(crate) fn peg<'a>(words: &[&'a [u8]]) -> Result<Command<'a>, FieldFault>
-    ensures { result ≡ spec.peg_of (texts words.now) }
+pub(crate) fn peg<'a>(words: &[&'a [u8]]) -> Result<Command<'a>, Bad>
+    ensures { result ≡ spec.in_fields (spec.peg_of (texts words.now)) }
 {
     let scenario = name_at(words, 1)?;
     let part = name_at(words, 2)?;
@@ -244,8 +246,8 @@ pub(crate) fn peg<'a>(words: &[&'a [u8]]) -> Result<Command<'a>, FieldFault>
 }
 
 #[tactic(auto, unfolding(crate::specs::Commands::trace_of))]
-pub(crate) fn trace<'a>(words: &[&'a [u8]]) -> Result<Command<'a>, FieldFault>
-    ensures { result ≡ spec.trace_of (texts words.now) }
+pub(crate) fn trace<'a>(words: &[&'a [u8]]) -> Result<Command<'a>, Bad>
+    ensures { result ≡ spec.in_fields (spec.trace_of (texts words.now)) }
 {
     let scenario = name_at(words, 1)?;
     let part = name_at(words, 2)?;
@@ -259,45 +261,46 @@ pub(crate) fn trace<'a>(words: &[&'a [u8]]) -> Result<Command<'a>, FieldFault>
 }
 
 #[tactic(auto, unfolding(crate::specs::Commands::cost_of))]
-pub(crate) fn cost<'a>(words: &[&'a [u8]]) -> Result<Command<'a>, FieldFault>
-    ensures { result ≡ spec.cost_of (texts words.now) }
+pub(crate) fn cost<'a>(words: &[&'a [u8]]) -> Result<Command<'a>, Bad>
+    ensures { result ≡ spec.in_fields (spec.cost_of (texts words.now)) }
 {
     let (scenario, part) = two_names(words)?;
     Ok(Command::Cost { scenario, part })
 }
 
 #[tactic(auto, unfolding(crate::specs::Commands::atp_of))]
-pub(crate) fn atp<'a>(words: &[&'a [u8]]) -> Result<Command<'a>, FieldFault>
-    ensures { result ≡ spec.atp_of (texts words.now) }
+pub(crate) fn atp<'a>(words: &[&'a [u8]]) -> Result<Command<'a>, Bad>
+    ensures { result ≡ spec.in_fields (spec.atp_of (texts words.now)) }
 {
     let (scenario, part) = two_names(words)?;
     Ok(Command::Atp { scenario, part })
 }
 
 #[tactic(auto, unfolding(crate::specs::Commands::select_of))]
-pub(crate) fn select<'a>(line: &'a [u8], words: &[&'a [u8]]) -> Result<Command<'a>, FieldFault>
+pub(crate) fn select<'a>(line: &'a [u8], words: &[&'a [u8]]) -> Result<Command<'a>, Bad>
     requires { length line.now ≤ 1024 }
-    ensures { result ≡ spec.select_of line.now (texts words.now) }
+    ensures { result ≡ spec.in_fields (spec.select_of line.now (texts words.now)) }
 {
     let scenario = name_at(words, 1)?;
     text_at(words, 2)?;
-    Ok(Command::Select {
-        scenario,
-        query: QueryText::of_line(line),
-    })
+    let query = QueryText::of_line(line);
+    match check_query(query.as_bytes()) {
+        Ok(()) => Ok(Command::Select { scenario, query }),
+        Err(fault) => Err(Bad::Query(fault)),
+    }
 }
 
 #[tactic(auto, unfolding(crate::specs::Commands::reclaim_of))]
-pub(crate) fn reclaim<'a>(words: &[&'a [u8]]) -> Result<Command<'a>, FieldFault>
-    ensures { result ≡ spec.reclaim_of (texts words.now) }
+pub(crate) fn reclaim<'a>(words: &[&'a [u8]]) -> Result<Command<'a>, Bad>
+    ensures { result ≡ spec.in_fields (spec.reclaim_of (texts words.now)) }
 {
     end_at(words, 1)?;
     Ok(Command::Reclaim)
 }
 
 #[tactic(auto, unfolding(crate::specs::Commands::quit_of))]
-pub(crate) fn quit<'a>(words: &[&'a [u8]]) -> Result<Command<'a>, FieldFault>
-    ensures { result ≡ spec.quit_of (texts words.now) }
+pub(crate) fn quit<'a>(words: &[&'a [u8]]) -> Result<Command<'a>, Bad>
+    ensures { result ≡ spec.in_fields (spec.quit_of (texts words.now)) }
 {
     end_at(words, 1)?;
     Ok(Command::Quit)

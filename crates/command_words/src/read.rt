@@ -15,7 +15,6 @@ use crate::reply::Bad;
 use crate::verb::Verb;
 use arrayvec::ArrayVec;
 use plan_schema::{FieldFault, Key, Record};
-use query_language::check_query;
 use row_text::{read_record, text_at};
 
 /// How many words of a line are looked at.
@@ -31,17 +30,7 @@ pub fn read_line<'a>(line: &'a [u8]) -> Result<Command<'a>, Bad>
     ensures sound { IfOk result (λ command. is_sound_command command ≡ true) }
 {
     let words = words_in(line);
-    read_words(line, words.as_slice())
-}
-
-/// The command that a line is, or the first fault of it, by its first words. Takes no memory.
-pub fn read_words<'a>(line: &'a [u8], words: &[&'a [u8]]) -> Result<Command<'a>, Bad>
-    requires short { length line.now ≤ 1024 }
-    requires words { texts words.now ≡ first_words line.now }
-    ensures value { result ≡ spec.command_of line.now }
-    ensures sound { IfOk result (λ command. is_sound_command command ≡ true) }
-{
-    command_of_words(line, words)
+    command_of_words(line, words.as_slice())
 }
 
 /// The row that a line inside a LOAD is, or its first faulty field, where field 0 is the table word. Takes no memory.
@@ -85,41 +74,15 @@ fn command_of_word<'a>(word: &[u8], line: &'a [u8], words: &[&'a [u8]]) -> Resul
     ensures { result ≡ spec.with_verb (verb_of word.now) line.now (texts words.now) }
 {
     match Verb::read(word) {
-        Some(verb) => in_fields(command_of_verb(verb, line, words)),
+        Some(verb) => command_of_verb(verb, line, words),
         None => Err(Bad::Word),
     }
 }
 
-/// A fault of a field, or else of the query, as a fault of the line.
-fn in_fields<'a>(command: Result<Command<'a>, FieldFault>) -> Result<Command<'a>, Bad>
-    ensures { result ≡ spec.in_fields command.entry }
-{
-    match command {
-        Ok(command) => in_query(command),
-        Err(fault) => Err(Bad::Field(fault)),
-    }
-}
-
-/// The command, where it asks no query or one of the language.
-fn in_query<'a>(command: Command<'a>) -> Result<Command<'a>, Bad>
-    ensures { result ≡ spec.in_query command.entry }
-{
-    if let Command::Select { query, .. } = &command {
-        if let Err(fault) = check_query(query.as_bytes()) {
-            return Err(Bad::Query(fault));
-        }
-    }
-    Ok(command)
-}
-
 #[tactic(auto, unfolding(crate::specs::Commands::command_of_verb))]
-fn command_of_verb<'a>(
-    verb: Verb,
-    line: &'a [u8],
-    words: &[&'a [u8]],
-) -> Result<Command<'a>, FieldFault>
+fn command_of_verb<'a>(verb: Verb, line: &'a [u8], words: &[&'a [u8]]) -> Result<Command<'a>, Bad>
     requires { length line.now ≤ 1024 }
-    ensures { result ≡ spec.command_of_verb verb line.now (texts words.now) }
+    ensures { result ≡ spec.in_fields (spec.command_of_verb verb line.now (texts words.now)) }
 {
     match verb {
         Verb::Hello => fields::hello(words),

@@ -1,4 +1,7 @@
 //! Replies.
+ghost use Rattle.std.specs.Prelude.{◌≡◌};
+ghost use Rattle.command_words.specs.declared.reply.Bad.TheVariants as bads;
+
 use crate::lines::Lines;
 use plan_schema::{FieldFault, Refusal};
 use query_language::QueryFault;
@@ -20,6 +23,14 @@ pub enum Bad {
     RowLong(u32),
     /// The input ends before the last row of a LOAD.
     Short,
+}
+
+impl From<FieldFault> for Bad {
+    ghost from_gives = { λ fault bad. bad ≡ bads.Field fault };
+
+    fn from(fault: FieldFault) -> Bad {
+        Bad::Field(fault)
+    }
 }
 
 /// What a session is answered. A point is the number of changes of which the reply speaks.

@@ -21,9 +21,10 @@ use Rattle.plan_book.specs.declared.ground.Ground.{Ground}
 use Rattle.plan_book.specs.Books.{Story, history, entries_in, story_of, point_of}
 use Rattle.sessions.specs.Serving.{IsShort, ServesInTurns, HasAnsweredInTurns}
 use Rattle.desk_rounds.specs.Rounds.{Place, IsPlace, IsPlaceServed}
-use Rattle.desk_rounds.specs.RoundsRun.{ended_as}
+use Rattle.plan_schema.specs.Outside.{Rose}
+use Rattle.desk_rounds.specs.RoundsRun.{ended_as, is_wanting}
 use Rattle.desk_rounds.specs.RunOver.{IsDeskOf}
-use Rattle.desk_rounds.specs.Told.{Spoken, IsSpoken, IsWholly, IsTelling}
+use Rattle.desk_rounds.specs.Told.{Spoken, IsSpoken, IsWholly, IsTelling, IsUnhurt}
 use Rattle.desk_rounds.proofs.Places.{desks_are_places}
 use Rattle.desk_rounds.proofs.RoundLaws.{AreOwn}
 
@@ -122,6 +123,21 @@ module _ {S K : Type 0} (left : S → Option (List ℕ)) (reads : S → ℕ) (so
 
     ended_here : ended_as t.served ≡ true → (count : ℕ) × (h.served.served ≡ ends.Ended count)
     ended_here sure = ended_is h.served.served (ap ended_as (sym h.served.told) ∙ sure)
+
+    -- a session that met no fault ended
+    pub unhurt_ended : (spoken : Spoken) → spoken.input ≡ input → IsUnhurt left taken reads writes d t spoken → ended_as t.served ≡ true
+    unhurt_ended spoken same unhurt =
+        by_served h.served.served h.served.told h.served.cause.reads_failed h.served.cause.writes_failed serves.limit (sym (ap is_past_limit same) ∙ unhurt.within) (sym (ap is_wanting h.served.told) ∙ unhurt.not_wanting)
+      where
+        by_served : (served : Served) → t.served ≡ Some served → (served ≡ ends.ReadFault → Rose (reads d.source) (reads t.source)) → (served ≡ ends.WriteFault → Rose (writes d.sink) (writes t.sink))
+            → (served ≡ ends.Limit → is_past_limit input ≡ true) → is_past_limit input ≡ false → is_wanting (Some served) ≡ false → ended_as t.served ≡ true
+        by_served (ends.Ended count) is read written long within wanting = ap ended_as is
+        by_served ends.ReadFault is read written long within wanting = absurd (unhurt.read (read refl))
+        by_served ends.WriteFault is read written long within wanting = absurd (unhurt.written (written refl))
+        by_served ends.Limit is read written long within wanting = (let never : true ≡ false = sym (long refl) ∙ within in cc)
+        by_served ends.Worn is read written long within wanting = cc
+        by_served ends.BookFault is read written long within wanting = cc
+        by_served ends.Memory is read written long within wanting = cc
 
     whole_told : (count : ℕ) → h.served.served ≡ ends.Ended count → Told
     whole_told count is =

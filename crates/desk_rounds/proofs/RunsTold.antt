@@ -21,15 +21,20 @@ use Rattle.plan_office.specs.Turns.{Known}
 use Rattle.desk_rounds.specs.Rounds.{Place, desks_of, ArePlaces, AreServed, AreKeptOf, AreKeptIn}
 use Rattle.desk_rounds.specs.RoundsRun.{all_ended, ended_as}
 use Rattle.desk_rounds.specs.RunOver.{HasNoneFrom, IsDeskOf, AreDesksOf, AreRunOver, AreRun}
-use Rattle.desk_rounds.specs.Told.{Spoken, IsWholly, AreSpokenAt, AreCutRounds, IsTelling, Hold, AreLegalIn, AreCutIn}
+use Rattle.desk_rounds.specs.Three.{EachThree}
+use Rattle.desk_rounds.specs.Told.{Spoken, IsWholly, AreSpokenAt, AreCutRounds, IsTelling, Hold, IsUnhurt, AreWholeUnhurt, AreLegalIn, AreCutIn}
 use Rattle.desk_rounds.proofs.Alls.{all_both, all_first, all_second}
 use Rattle.desk_rounds.proofs.RoundLaws.{AreOwn, own_of_entries, all_own, front_none, squeeze, points, begins_length, IsSettled, floor_low, ceiling_high, rounds_are_legal}
 use Rattle.desk_rounds.proofs.RunsOver.{first_or_more}
-use Rattle.desk_rounds.proofs.DesksTold.{some_of, input_is, told, front_entered, front_spoken, front_output, placed}
+use Rattle.desk_rounds.proofs.DesksTold.{some_of, input_is, told, front_entered, front_spoken, front_output, unhurt_ended, placed}
 
 both_true : (a b : Bool) → (a && b) ≡ true → (a ≡ true) × (b ≡ true)
 both_true true b h = (refl, h)
 both_true false b h = (let never : false ≡ true = h in cc)
+
+true_both : (a b : Bool) → a ≡ true → b ≡ true → (a && b) ≡ true
+true_both true b h k = k
+true_both false b h k = (let never : false ≡ true = h in cc)
 
 either : (k n : ℕ) → (k < n) ⊎ (n ≤ k)
 either k n = elim (cases_Bool (nat_lt k n)) [ inl a ↦ inl (grind (arith, nat_tests)) | inr b ↦ inr (grind (arith, nat_tests)) ]
@@ -62,6 +67,9 @@ module _ {S K : Type 0} (left : S → Option (List ℕ)) (reads : S → ℕ) (so
 
   abbrev AreOver : ℕ → Story → List (List (Desk S K)) → List (List (Desk S K)) → Type 0
   AreOver number before olds news = AreRunOver left reads source_label taken writes sink_label turn basis whole number before olds news
+
+  abbrev Unhurt : Desk S K → Desk S K → Spoken → Type 0
+  Unhurt d t spoken = IsUnhurt left taken reads writes d t spoken
 
   abbrev Tell : Desk S K → Type 0
   Tell desk = IsTelling left taken desk
@@ -210,10 +218,12 @@ module _ {S K : Type 0} (left : S → Option (List ℕ)) (reads : S → ℕ) (so
       pub long : length round ≡ length ds
       pub hold : Hold left taken ds ts (map (λ spoken. spoken.input) round) (map (λ spoken. spoken.output) round)
       pub wholly : all_ended ts ≡ true → AllByRecursion IsWholly round
+      pub sound : EachThree (λ d t spoken. Unhurt d t spoken → IsWholly spoken) ds ts round
+      pub ended : EachThree Unhurt ds ts round → all_ended ts ≡ true
 
     cut_round : (number floor ceiling : ℕ) (before after : Story) (ds ts : List (Desk S K)) → AreOf number before after ds ts → AllByRecursion Tell ds → Begins after whole → floor ≤ early + length before → early + length after ≤ ceiling
         → CutRound number floor ceiling ds ts
-    cut_round number floor ceiling before after [] [] h tell ends low high = record { round = []; are = tt; long = refl; hold = tt; wholly = λ sure. tt }
+    cut_round number floor ceiling before after [] [] h tell ends low high = record { round = []; are = tt; long = refl; hold = tt; wholly = λ sure. tt; sound = tt; ended = λ unhurt. refl }
     cut_round number floor ceiling before after (d ∷ ds) (t ∷ ts) h tell ends low high =
         let s = told left reads source_label taken writes sink_label turn began basis based whole number before after d t h.0 tell.0 in
         let starts = begins_length before h.0.begun.seen h.0.ahead in
@@ -231,6 +241,8 @@ module _ {S K : Type 0} (left : S → Option (List ℕ)) (reads : S → ℕ) (so
           long = ap suc rest.long;
           hold = (source, sink, rest.hold);
           wholly = λ sure. (s.wholly (both_true (ended_as t.served) (all_ended ts) sure).0, rest.wholly (both_true (ended_as t.served) (all_ended ts) sure).1);
+          sound = (λ unhurt. s.wholly (unhurt_ended left reads source_label taken writes sink_label turn began basis based whole number before after d t h.0 tell.0 _ refl unhurt), rest.sound);
+          ended = λ unhurt. true_both (ended_as t.served) (all_ended ts) (unhurt_ended left reads source_label taken writes sink_label turn began basis based whole number before after d t h.0 tell.0 _ refl unhurt.0) (rest.ended unhurt.1);
         }
     cut_round number floor ceiling before after [] (t ∷ ts) h tell ends low high = absurd h
     cut_round number floor ceiling before after (d ∷ ds) [] h tell ends low high = absurd h
@@ -285,6 +297,7 @@ module _ {S K : Type 0} (left : S → Option (List ℕ)) (reads : S → ℕ) (so
       pub long : map length rounds ≡ map length olds
       pub hold : Hold left taken (all_desks olds) (all_desks news) (map (λ spoken. spoken.input) (all_desks rounds)) (map (λ spoken. spoken.output) (all_desks rounds))
       pub cut : AreCutRounds began.base began.earlier (entries_in whole) number rounds
+      pub sound : AreWholeUnhurt left taken reads writes olds news rounds
 
     -- behind a round come further ones, where all its sessions ended, and silent ones else
     pub record Behind (done : Bool) (number : ℕ) (olds news : List (List (Desk S K))) : Type 0 where
@@ -292,9 +305,10 @@ module _ {S K : Type 0} (left : S → Option (List ℕ)) (reads : S → ℕ) (so
       pub long : map length rounds ≡ map length olds
       pub hold : Hold left taken (all_desks olds) (all_desks news) (map (λ spoken. spoken.input) (all_desks rounds)) (map (λ spoken. spoken.output) (all_desks rounds))
       pub cut : ((done ≡ true) × AreCutRounds began.base began.earlier (entries_in whole) number rounds) ⊎ AllByRecursion (λ later. AllByRecursion (λ (spoken : Spoken). spoken.output ≡ []) later) rounds
+      pub sound : done ≡ true → AreWholeUnhurt left taken reads writes olds news rounds
 
     pub cut_rounds : (number : ℕ) (before : Story) (olds news : List (List (Desk S K))) → AreOver number before olds news → AllByRecursion Tell (all_desks olds) → IsSettled began whole own number before → CutRounds number olds news
-    cut_rounds number before [] [] h tell settled = record { rounds = []; long = refl; hold = tt; cut = tt }
+    cut_rounds number before [] [] h tell settled = record { rounds = []; long = refl; hold = tt; cut = tt; sound = tt }
     cut_rounds number before (ds ∷ olds) (ts ∷ news) h tell settled =
         let here = all_first Tell ds (all_desks olds) tell in
         let later = all_second Tell ds (all_desks olds) tell in
@@ -312,6 +326,7 @@ module _ {S K : Type 0} (left : S → Option (List ℕ)) (reads : S → ℕ) (so
             subst (λ n. AreSpokenAt began.base began.earlier (entries_in whole) (early + entries_of entries 0 number) (early + entries_of entries 0 n) number one.round) next one.are,
             by_cut (all_ended ts) one.round rest.rounds (number + length ds) (number + length one.round) next one.wholly rest.cut,
           );
+          sound = (one.sound, λ unhurt. rest.sound (one.ended unhurt));
         }
       where
         by_front : (b : Bool) (after : Story) (n : ℕ) → MatchBool b (AreOver n after olds news) ((news ≡ olds) × Begins after whole × HasNoneFrom n whole) → Begins after whole
@@ -323,10 +338,10 @@ module _ {S K : Type 0} (left : S → Option (List ℕ)) (reads : S → ℕ) (so
         by_fresh false after n h tell = λ k more. front_none k after whole h.1 (h.2 k more)
 
         by_end : (b : Bool) (after : Story) (n : ℕ) → MatchBool b (AreOver n after olds news) ((news ≡ olds) × Begins after whole × HasNoneFrom n whole) → AllByRecursion Tell (all_desks olds) → (AreOver n after olds news → CutRounds n olds news) → Behind b n olds news
-        by_end true after n h tell rest = let r = rest h in record { rounds = r.rounds; long = r.long; hold = r.hold; cut = inl (refl, r.cut) }
+        by_end true after n h tell rest = let r = rest h in record { rounds = r.rounds; long = r.long; hold = r.hold; cut = inl (refl, r.cut); sound = λ sure. r.sound }
         by_end false after n h tell rest =
             let r = silent_rounds olds tell in
-            record { rounds = r.rounds; long = r.long; hold = subst (λ rs. Hold left taken (all_desks olds) (all_desks rs) (map (λ spoken. spoken.input) (all_desks r.rounds)) (map (λ spoken. spoken.output) (all_desks r.rounds))) (sym h.0) r.hold; cut = inr r.silent }
+            record { rounds = r.rounds; long = r.long; hold = subst (λ rs. Hold left taken (all_desks olds) (all_desks rs) (map (λ spoken. spoken.input) (all_desks r.rounds)) (map (λ spoken. spoken.output) (all_desks r.rounds))) (sym h.0) r.hold; cut = inr r.silent; sound = λ sure. (let never : false ≡ true = sure in cc) }
 
         by_cut : (b : Bool) (round : List Spoken) (rounds : List (List Spoken)) (n m : ℕ) → n ≡ m → (b ≡ true → AllByRecursion IsWholly round)
             → ((b ≡ true) × AreCutRounds began.base began.earlier (entries_in whole) n rounds) ⊎ AllByRecursion (λ later. AllByRecursion (λ (spoken : Spoken). spoken.output ≡ []) later) rounds
@@ -346,12 +361,12 @@ module _ {S K : Type 0} (left : S → Option (List ℕ)) (reads : S → ℕ) (so
       let r = legal_rounds left reads source_label taken writes sink_label turn began p.basis (sym run.basis ∙ based) whole 1 [] olds news over.1 tell ended in
       (map desks_of r.rounds, r.hold, r.long, rounds_are_legal began whole r.rounds r.served r.kept over.0 legal, r.within)
 
-  pub run_cut : AreCutIn left taken q olds news
+  pub run_cut : AreCutIn left taken reads writes q olds news
   run_cut began whole based is legal tell =
       let over = run.over whole is in
       let own : AreOwn whole = all_own whole (λ k. by_zero k (cases_Bool (k == 0)) over.0 (λ some. over_own left reads source_label taken writes sink_label turn began p.basis (sym run.basis ∙ based) whole 1 [] olds news over.1 tell k some)) in
       let r = cut_rounds left reads source_label taken writes sink_label turn began p.basis (sym run.basis ∙ based) whole own 1 [] olds news over.1 tell (λ k low. let zero_is : k ≡ 0 = omega arith in ap (λ n. story.entries_of n whole) zero_is ∙ over.0) in
-      (r.rounds, r.hold, r.long, r.cut)
+      (r.rounds, r.hold, r.long, r.cut, r.sound)
     where
       by_zero : (k : ℕ) → ((k == 0) ≡ true) ⊎ ((k == 0) ≡ false) → story.entries_of 0 whole ≡ [] → (1 ≤ k → AreOwn (story.entries_of k whole)) → AreOwn (story.entries_of k whole)
       by_zero k (inl is) none rest = let zero_is : k ≡ 0 = grind (arith, nat_tests) in subst (λ n. AreOwn (story.entries_of n whole)) (sym zero_is) (subst AreOwn (sym none) tt)

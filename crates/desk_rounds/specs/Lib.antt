@@ -4,6 +4,7 @@ pub mod PassLists
 pub mod DesksServed
 pub mod RoundsRun
 pub mod Two
+pub mod Three
 pub mod RunFrom
 pub mod RunOver
 pub mod Told

@@ -15,6 +15,13 @@ abbrev pub ended_as : Option Served → Bool
 ended_as (Some (ends.Ended count)) = true
 ended_as served = false
 
+-- whether a session stopped for want of memory, since no turn was left, or since what keeps the changes failed
+abbrev pub is_wanting : Option Served → Bool
+is_wanting (Some ends.Memory) = true
+is_wanting (Some ends.Worn) = true
+is_wanting (Some ends.BookFault) = true
+is_wanting served = false
+
 -- whether all sessions of a round ended
 abbrev pub all_ended : {S K : Type 0} → List (Desk S K) → Bool
 all_ended desks = list_all (λ desk. ended_as desk.served) desks

@@ -16,7 +16,9 @@ use Rattle.turn_table.specs.Passes.{IsStoryOf}
 use Rattle.plan_book.specs.declared.ground.Ground.{Ground}
 use Rattle.plan_book.specs.Books.{Story, history, entries_in}
 use Rattle.plan_office.specs.Turns.{Known}
-use Rattle.desk_rounds.specs.RoundsRun.{all_ended}
+use Rattle.plan_schema.specs.Outside.{Rose}
+use Rattle.desk_rounds.specs.RoundsRun.{all_ended, is_wanting}
+use Rattle.desk_rounds.specs.Three.{EachThree}
 
 -- a session that may have stopped: what it was sent and what it wrote, the replies to its first requests, so many, and a last one, of
 -- whose text the output may have a front alone
@@ -76,9 +78,27 @@ module _ {S K : Type 0} (left : S → Option (List ℕ)) (taken : K → Option (
       → (rounds : List (List Desk)) × Hold (all_desks olds) (all_desks news) (map (λ desk. desk.input) (all_desks rounds)) (map (λ desk. desk.output) (all_desks rounds))
       × (map length rounds ≡ map length olds) × IsRun began.base began.earlier (entries_in story) rounds × AllByRecursion (λ (desk : Desk). is_past_limit desk.input ≡ false) (all_desks rounds)
 
-  -- and a run that was cut short, whether or not all sessions ended
-  abbrev pub AreCutIn : Known → List (List (Served S K)) → List (List (Served S K)) → Type 0
-  AreCutIn q olds news = (began : Ground) (story : Story) → q.basis ≡ Some began → IsStoryOf q story → IsLegal began.base (history began story)
-      → AllByRecursion IsTelling (all_desks olds)
-      → (rounds : List (List Spoken)) × Hold (all_desks olds) (all_desks news) (map (λ spoken. spoken.input) (all_desks rounds)) (map (λ spoken. spoken.output) (all_desks rounds))
-      × (map length rounds ≡ map length olds) × AreCutRounds began.base began.earlier (entries_in story) 1 rounds
+  -- their counts of faults
+  module _ (reads : S → ℕ) (writes : K → ℕ) where
+    -- a session met no fault: no read of its input and no write of its output failed, its input isn't too long, and neither memory nor turns
+    -- nor what keeps the changes were wanting
+    pub record IsUnhurt (old new : Served S K) (spoken : Spoken) : Type 0 where
+      pub read : Rose (reads old.source) (reads new.source) → ⊥
+      pub written : Rose (writes old.sink) (writes new.sink) → ⊥
+      pub within : is_past_limit spoken.input ≡ false
+      pub not_wanting : is_wanting new.served ≡ false
+
+    -- a session that met none is whole: in the first round, and in each behind rounds whose sessions all met none
+    abbrev pub AreWholeUnhurt : List (List (Served S K)) → List (List (Served S K)) → List (List Spoken) → Type 0
+    AreWholeUnhurt [] [] [] = Unit {0}
+    AreWholeUnhurt (old ∷ olds) (new ∷ news) (round ∷ rounds) =
+        EachThree (λ desk then spoken. IsUnhurt desk then spoken → IsWholly spoken) old new round
+        × (EachThree IsUnhurt old new round → AreWholeUnhurt olds news rounds)
+    AreWholeUnhurt olds news rounds = ⊥
+
+    -- and a run that was cut short, whether or not all sessions ended
+    abbrev pub AreCutIn : Known → List (List (Served S K)) → List (List (Served S K)) → Type 0
+    AreCutIn q olds news = (began : Ground) (story : Story) → q.basis ≡ Some began → IsStoryOf q story → IsLegal began.base (history began story)
+        → AllByRecursion IsTelling (all_desks olds)
+        → (rounds : List (List Spoken)) × Hold (all_desks olds) (all_desks news) (map (λ spoken. spoken.input) (all_desks rounds)) (map (λ spoken. spoken.output) (all_desks rounds))
+        × (map length rounds ≡ map length olds) × AreCutRounds began.base began.earlier (entries_in story) 1 rounds × AreWholeUnhurt olds news rounds

@@ -34,7 +34,8 @@ pub fn run_rounds<B: PlanBook + Send, S: Source + Send, K: Sink + Send, R: Threa
     ensures run { OnOk result (AreRun S.left S.faults S.label K.taken K.faults K.label office.now
         pass.old pass.new rounds.old rounds.new) }
     ensures legal { OnOk result (AreLegalIn S.left K.taken pass.new rounds.old rounds.new) }
-    ensures cut { OnOk result (AreCutIn S.left K.taken pass.new rounds.old rounds.new) }
+    ensures cut { OnOk result (AreCutIn S.left K.taken S.faults K.faults pass.new rounds.old
+        rounds.new) }
     ensures unread { OnErr result (rounds.new ≡ rounds.old) }
 {
     let count = rounds.desks();

@@ -11,6 +11,10 @@ pub all_mapped : {X Y : Type 0} (f : X → Y) (P : X → Type 0) (Q : Y → Type
 all_mapped f P Q so [] h = tt
 all_mapped f P Q so (x ∷ xs) h = (so x h.0, all_mapped f P Q so xs h.1)
 
+pub all_always : {X : Type 0} (P : X → Type 0) → ((x : X) → P x) → (xs : List X) → AllByRecursion P xs
+all_always P so [] = tt
+all_always P so (x ∷ xs) = (so x, all_always P so xs)
+
 -- what holds of every image
 pub all_images : {X Y : Type 0} (f : X → Y) (Q : Y → Type 0) → ((x : X) → Q (f x)) → (xs : List X) → AllByRecursion Q (map f xs)
 all_images f Q so [] = tt

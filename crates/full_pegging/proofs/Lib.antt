@@ -1,7 +1,9 @@
 mod Everywhere
+mod EachEnd
 mod Stands
 mod Sums
 mod ByDays
+pub mod SameEnds
 mod Spreading
 mod InARow
 mod MeetingRows

@@ -1,10 +1,10 @@
 -- Units end where a row stands: at a demand of the contents, or as surplus of one of its parts.
-use Rattle.std.proofs.Common.{◌≡◌, ℕ, zero, suc, ◌+◌, ◌*◌, ◌/◌, ◌⊎◌, inl, inr, List, [], ◌∷◌, length, refl, sym, subst, arith, Bool, true, false, cond}
+use Rattle.std.proofs.Common.{◌≡◌, ℕ, suc, ◌+◌, ◌*◌, ◌⊎◌, inl, inr, List, [], ◌∷◌, length, refl, sym, subst, arith, Bool, true, false, cond}
 use Rattle.std.proofs.lemmas.Bool.Decides.{nat_tests}
 use Rattle.std.proofs.lemmas.Map.Views.{tells_apart}
 use Rattle.std.proofs.lemmas.Map.Lookups.{exact_bytes}
-use Rattle.std.specs.Prelude.{Option, Some, None, is_some, nat_lt, slice_index, sum, take}
-use Rattle.std.specs.List.{AllByRecursion, range_with_len, list_all, flat_map}
+use Rattle.std.specs.Prelude.{Option, Some, None, is_some, nat_lt, slice_index}
+use Rattle.std.specs.List.{AllByRecursion, list_all}
 use Rattle.std.specs.Ordering.{is_eq}
 use Rattle.std.specs.declared.cmp.Ordering.{Ordering}
 use Rattle.std.specs.declared.cmp.Ordering.TheVariants.{Less, Equal, Greater}
@@ -17,11 +17,12 @@ use Rattle.plan_schema.specs.Key.{name_eq, key_cmp}
 use Rattle.plan_schema.specs.Contents.{Contents, record_at}
 use Rattle.plan_schema.proofs.Orders.{exact_keys}
 use Rattle.planning_rules.specs.Bills.{bills_of, parents, is_effective}
-use Rattle.planning_rules.specs.Days.{start_of, days_of, counts_on}
-use Rattle.planning_rules.specs.Plan.{Order, Known, Planned, Large, plan, plan_within, released, has_outcome, asked_by, asked_by_parents, demand_in, demands_of, demands_on, input_of, known_from, gross_of, stock_in}
-use Rattle.planning_rules.specs.Pegs.{Peg, FromDemand, FromParent, above_zero, pegs_from}
-use Rattle.planning_rules.specs.Trace.{End, AtDemand, Surplus, end_at, per_in, peg_ends, demand_ends, ends_on, day_ends, ends_within}
-use Rattle.full_pegging.proofs.Everywhere.{all_append, all_mapped, all_images, all_flat, all_flat_always, all_kept, all_given, all_weaker, all_read}
+use Rattle.planning_rules.specs.Days.{start_of, counts_on}
+use Rattle.planning_rules.specs.Plan.{Order, Known, plan, plan_within, released, has_outcome, asked_by, asked_by_parents, demand_in, demands_of, demands_on, input_of, known_from, gross_of}
+use Rattle.planning_rules.specs.Pegs.{pegs_from}
+use Rattle.planning_rules.specs.Trace.{End, AtDemand, Surplus, day_ends, ends_within}
+use Rattle.full_pegging.proofs.EachEnd.{Leads, pegs_lead, day_all, units_all}
+use Rattle.full_pegging.proofs.Everywhere.{all_images, all_given, all_weaker}
 
 -- a key has a row
 abbrev pub HasKey : Contents → Key → Type 0
@@ -32,11 +33,6 @@ HasKey (row ∷ rows) key = (row.0 ≡ key) ⊎ HasKey rows key
 abbrev pub Stands : Contents → End → Type 0
 Stands c (AtDemand part order) = HasKey c (keys.Demand part order)
 Stands c (Surplus part) = HasKey c (keys.Part part)
-
--- a peg is of a row
-abbrev pub IsOfRow : Contents → Name → Peg → Type 0
-IsOfRow c n (FromDemand order qty) = HasKey c (keys.Demand n order)
-IsOfRow c n (FromParent parent qty) = HasKey c (keys.Part parent)
 
 each_has : (c : Contents) → AllByRecursion (λ (row : Key × Record). HasKey c row.0) c
 each_has [] = tt
@@ -101,56 +97,31 @@ demands_have c n t =
     (counted_has c n (start_of c) t) (demands_of c n)
     (all_given (demand_in n) (λ row. HasKey c row.0) (λ o. HasKey c (keys.Demand n o.name)) (demand_has c n) c (each_has c))
 
+-- all names are followed
+abbrev IsAny : Name → Type 0
+IsAny n = Unit {0}
+
 -- what asks for something has a plan
 asks_planned : (o : Option Known) (b : Bool) (per t : ℕ) → nat_lt 0 (cond b (per * slice_index (released o) t) 0) ≡ true → is_some o ≡ true
 asks_planned (Some k) b per t h = refl
 asks_planned None true per t h = let none : slice_index (released None) t ≡ 0 = refl in absurd (grind (arith, nat_tests))
 asks_planned None false per t h = absurd (let never : ⊥ = cc in never)
 
-parents_have : (c : Contents) (n : Name) (t : ℕ) → AllByRecursion (λ (pair : Name × ℕ). HasKey c (keys.Part pair.0)) (above_zero (asked_by_parents (plan c) c n t))
+parents_have : (c : Contents) (n : Name) (t : ℕ) → AllByRecursion (λ (pair : Name × ℕ). nat_lt 0 pair.1 ≡ true → IsAny pair.0 × HasKey c (keys.Part pair.0)) (asked_by_parents (plan c) c n t)
 parents_have c n t =
-    all_kept (λ (pair : Name × ℕ). nat_lt 0 pair.1) (λ pair. nat_lt 0 pair.1 ≡ true → HasKey c (keys.Part pair.0)) (λ pair. HasKey c (keys.Part pair.0)) (λ pair so asks. so asks)
-    (asked_by_parents (plan c) c n t)
-    (all_images (asked_by (plan c) (start_of c) t) (λ pair. nat_lt 0 pair.1 ≡ true → HasKey c (keys.Part pair.0))
-    (λ bill asks. planned_is_part c bill.parent (asks_planned (plan c bill.parent) (is_effective bill.span (start_of c + t)) bill.per t asks)) (bills_of c n))
+    all_images (asked_by (plan c) (start_of c) t) (λ pair. nat_lt 0 pair.1 ≡ true → IsAny pair.0 × HasKey c (keys.Part pair.0))
+    (λ bill asks. (tt, planned_is_part c bill.parent (asks_planned (plan c bill.parent) (is_effective bill.span (start_of c + t)) bill.per t asks))) (bills_of c n)
 
-pegs_have : (c : Contents) (n : Name) (t : ℕ) → AllByRecursion (IsOfRow c n) (pegs_from (plan c) c n t)
-pegs_have c n t =
-    all_append (IsOfRow c n) _ _
-    (all_mapped (λ (pair : Name × ℕ). FromDemand pair.0 pair.1) (λ pair. HasKey c (keys.Demand n pair.0)) (IsOfRow c n) (λ pair h. h) (above_zero (demands_on c n t))
-    (all_kept (λ (pair : Name × ℕ). nat_lt 0 pair.1) (λ pair. HasKey c (keys.Demand n pair.0)) (λ pair. HasKey c (keys.Demand n pair.0)) (λ pair h _. h) (demands_on c n t) (demands_have c n t)))
-    (all_mapped (λ (pair : Name × ℕ). FromParent pair.0 pair.1) (λ pair. HasKey c (keys.Part pair.0)) (IsOfRow c n) (λ pair h. h) (above_zero (asked_by_parents (plan c) c n t)) (parents_have c n t))
+pegs_stand : (c : Contents) (n : Name) (t : ℕ) → AllByRecursion (Leads IsAny (Stands c) n) (pegs_from (plan c) c n t)
+pegs_stand c n t = pegs_lead IsAny (Stands c) c n t (demands_have c n t) (parents_have c n t)
 
 -- each unit ends at a row --------------------------------------------------------------------------------------------------
 
 abbrev pub AllStand : Contents → List End → Type 0
 AllStand c ends = AllByRecursion (Stands c) ends
 
-end_stands : (c : Contents) (n : Name) (ends : List End) (place : ℕ) → AllStand c ends → HasKey c (keys.Part n) → Stands c (end_at n ends place)
-end_stands c n ends place all past = all_read (Stands c) ends place (Surplus n) all past
-
-peg_stands : (c : Contents) (ends : Name → List End) → ((n : Name) → AllStand c (ends n)) → (n : Name) (t : ℕ) (peg : Peg) → IsOfRow c n peg → AllStand c (peg_ends ends (plan c) c n t peg)
-peg_stands c ends all n t (FromDemand order qty) h = all_images (λ (unit : ℕ). AtDemand n order) (Stands c) (λ unit. h) (range_with_len 0 qty)
-peg_stands c ends all n t (FromParent p qty) h =
-    all_images (λ unit. end_at p (ends p) (sum (take t (released (plan c p))) + unit / per_in (record_at c (keys.Bill p n)))) (Stands c)
-    (λ unit. end_stands c p (ends p) (sum (take t (released (plan c p))) + unit / per_in (record_at c (keys.Bill p n))) (all p) h) (range_with_len 0 qty)
-
-demand_stands : (c : Contents) (ends : Name → List End) → ((n : Name) → AllStand c (ends n)) → (n : Name) → AllStand c (demand_ends ends (plan c) c n)
-demand_stands c ends all n =
-    all_flat_always (λ t. flat_map (peg_ends ends (plan c) c n t) (pegs_from (plan c) c n t)) (Stands c)
-    (λ t. all_flat (peg_ends ends (plan c) c n t) (IsOfRow c n) (Stands c) (peg_stands c ends all n t) (pegs_from (plan c) c n t) (pegs_have c n t)) (range_with_len 0 (days_of c))
-
 pub day_stands : (c : Contents) (ends : Name → List End) → ((n : Name) → AllStand c (ends n)) → (n : Name) (t : ℕ) → AllStand c (day_ends ends (plan c) c n t)
-day_stands c ends all n t = by_plan (plan c n) (planned_is_part c n)
-  where
-    by_plan : (o : Option Known) → (is_some o ≡ true → HasKey c (keys.Part n)) → AllStand c (ends_on n (stock_in (record_at c (keys.Stock n))) o (demand_ends ends (plan c) c n) t)
-    by_plan None part = tt
-    by_plan (Some Large) part = tt
-    by_plan (Some (Planned x)) part =
-        all_images (λ unit. end_at n (demand_ends ends (plan c) c n) ((stock_in (record_at c (keys.Stock n)) + sum (take (suc t) x.sched)) + (sum (take t x.planned) + unit))) (Stands c)
-        (λ unit. end_stands c n (demand_ends ends (plan c) c n) ((stock_in (record_at c (keys.Stock n)) + sum (take (suc t) x.sched)) + (sum (take t x.planned) + unit)) (demand_stands c ends all n) (part refl))
-        (range_with_len 0 (slice_index x.planned t))
+day_stands c ends all n t = day_all c IsAny (Stands c) (λ n any. pegs_stand c n) (λ n any. planned_is_part c n) ends (λ n any. all n) n tt t
 
 pub units_stand : (c : Contents) (names : ℕ) (n : Name) → AllStand c (ends_within names c n)
-units_stand c zero n = tt
-units_stand c (suc names) n = all_flat_always (day_ends (ends_within names c) (plan c) c n) (Stands c) (day_stands c (ends_within names c) (units_stand c names) n) (range_with_len 0 (days_of c))
+units_stand c names n = units_all c IsAny (Stands c) (λ n any. pegs_stand c n) (λ n any. planned_is_part c n) names n tt

@@ -46,6 +46,7 @@ answered base history user (commands.Show scenario cell) some = refl
 answered base history user (commands.Level scenario part) some = refl
 answered base history user (commands.Plan scenario part) some = refl
 answered base history user (commands.Peg scenario part day) some = refl
+answered base history user (commands.Trace scenario part day) some = refl
 answered base history user (commands.Atp scenario part) some = refl
 answered base history user (commands.Cost scenario part) some = refl
 answered base history user (commands.Select scenario text) some = selected (world_after base history) (length history) user scenario (result_ok (query_of text))

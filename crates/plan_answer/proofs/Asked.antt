@@ -1,5 +1,5 @@
 -- What commands are answered in sessions, from the cells that were collected for their questions.
-use Rattle.std.proofs.Common.{◌≡◌, List, [], ◌∷◌, length, sym, ◌∙◌, ap, true}
+use Rattle.std.proofs.Common.{◌≡◌, List, [], ◌∷◌, length, refl, sym, ◌∙◌, ap, true}
 use Rattle.std.specs.Prelude.{Option, Some, None, is_some, is_none, option_map, IsSome}
 use Rattle.std.specs.Result.{result_ok}
 use Rattle.plan_schema.specs.declared.name.Name.{Name}
@@ -21,8 +21,9 @@ use Rattle.command_words.specs.declared.command.Command.{Command}
 use Rattle.command_words.specs.declared.command.Command.TheVariants as commands
 use Rattle.plan_jobs.specs.declared.job.Wanted.{Wanted}
 use Rattle.plan_jobs.specs.declared.job.Wanted.TheVariants as wants
+use Rattle.plan_jobs.specs.Jobs.{wants_plan}
 use Rattle.session_rules.specs.Answers.{answer, query_reply}
-use Rattle.plan_answer.specs.Asks.{Question, ShowsCell, TellsLevel, TellsPlan, Pegs, Promises, TellsCosts, Selects, question_of, wanted_by}
+use Rattle.plan_answer.specs.Asks.{Question, ShowsCell, TellsLevel, TellsPlan, Pegs, Traces, Promises, TellsCosts, Selects, question_of, wanted_by, asks_for_plan}
 use Rattle.plan_answer.specs.Planned.{wants_of}
 use Rattle.plan_answer.specs.Replies.{question_refusal, question_lines}
 use Rattle.plan_answer.specs.Laws.{reply_in, AskedIsAnswered, BarredIsAnswered, RefusedIsAnswered}
@@ -50,10 +51,22 @@ same_want (commands.Show s cell) scenario wanted question w q = sym (pair_inside
 same_want (commands.Level s part) scenario wanted question w q = sym (pair_inside (s, wants.Part part) (scenario, wanted) w) ∙ ap wants_of (inside (TellsLevel part) question q)
 same_want (commands.Plan s part) scenario wanted question w q = sym (pair_inside (s, wants.Part part) (scenario, wanted) w) ∙ ap wants_of (inside (TellsPlan part) question q)
 same_want (commands.Peg s part day) scenario wanted question w q = sym (pair_inside (s, wants.Part part) (scenario, wanted) w) ∙ ap wants_of (inside (Pegs part day) question q)
+same_want (commands.Trace s part day) scenario wanted question w q = sym (pair_inside (s, wants.Part part) (scenario, wanted) w) ∙ ap wants_of (inside (Traces part day) question q)
 same_want (commands.Atp s part) scenario wanted question w q = sym (pair_inside (s, wants.Part part) (scenario, wanted) w) ∙ ap wants_of (inside (Promises part) question q)
 same_want (commands.Cost s part) scenario wanted question w q = sym (pair_inside (s, wants.Part part) (scenario, wanted) w) ∙ ap wants_of (inside (TellsCosts part) question q)
 same_want (commands.Select s text) scenario wanted question w q = sym (pair_inside (s, wants.All) (scenario, wanted) w) ∙ selects (result_ok (query_of text)) question q
 same_want _ scenario wanted question w q = absurd (let never : ⊥ = cc in never)
+
+-- what asks for plans wants a plan
+pub wants_its_plan : (asked : Question) → asks_for_plan asked ≡ true → wants_plan (wants_of asked) ≡ true
+wants_its_plan (ShowsCell cell) uses = absurd (let never : ⊥ = cc in never)
+wants_its_plan (TellsLevel part) uses = absurd (let never : ⊥ = cc in never)
+wants_its_plan (TellsPlan part) uses = refl
+wants_its_plan (Pegs part day) uses = refl
+wants_its_plan (Traces part day) uses = refl
+wants_its_plan (Promises part) uses = refl
+wants_its_plan (TellsCosts part) uses = refl
+wants_its_plan (Selects query) uses = refl
 
 -- a scenario that may be used ------------------------------------------------------------------------------------------------------
 

@@ -13,6 +13,7 @@ use Rattle.planning_rules.specs.Bills.{parents, level}
 use Rattle.planning_rules.specs.Days.{start_of, days_of}
 use Rattle.planning_rules.specs.Pegs.{pegs, no_day}
 use Rattle.planning_rules.specs.Plan.{plan, released, stock_in}
+use Rattle.planning_rules.specs.Trace.{trace}
 use Rattle.planning_rules.specs.Refused.{in_reach, level_refusal, plan_refusal}
 use Rattle.planning_rules.proofs.Membership.{IsIn}
 use Rattle.query_language.specs.declared.column.Column.{Column}
@@ -35,16 +36,17 @@ use Rattle.plan_jobs.specs.Laws.{is_among, PlanAlike}
 use Rattle.plan_jobs.proofs.Alike.{all_in_list}
 use Rattle.plan_jobs.proofs.CollectedLaws.{collected_rows, collected_plans}
 use Rattle.plan_jobs.proofs.Collecting.{is_job}
-use Rattle.plan_jobs.proofs.Gathering.{asked_reached, parent_reached, in_is}
+use Rattle.plan_jobs.proofs.Gathering.{asked_reached, parent_reached, is_in, in_is}
 use Rattle.query_rows.specs.Rows.{value_by, meets_with}
 use Rattle.query_rows.proofs.Values.{value_is_from_cell, meets_from_cell}
 use Rattle.session_rules.specs.Costs.{part_costs, no_costs, unplanned_shortages, lines_of_costs}
-use Rattle.session_rules.specs.Answers.{lists_of, plan_lines, level_line, peg_line, promise_line, query_reply}
-use Rattle.plan_answer.specs.Asks.{Question, ShowsCell, TellsLevel, TellsPlan, Pegs, Promises, TellsCosts, Selects}
+use Rattle.session_rules.specs.Answers.{lists_of, plan_lines, level_line, peg_line, share_line, promise_line, query_reply}
+use Rattle.plan_answer.specs.Asks.{Question, ShowsCell, TellsLevel, TellsPlan, Pegs, Traces, Promises, TellsCosts, Selects}
 use Rattle.plan_answer.specs.Planned.{wants_of}
 use Rattle.plan_answer.specs.Replies.{reply_of}
 use Rattle.plan_answer.specs.Laws.{CollectedIsEnough}
 use Rattle.plan_answer.proofs.CollectedParts.{parts_same}
+use Rattle.plan_answer.proofs.CollectedShares.{trace_same}
 
 map_listed : {A : Type 0} (f g : Name → A) (ns : List Name) → ((n : Name) → IsIn n ns → f n ≡ g n) → map f ns ≡ map g ns
 map_listed f g [] h = refl
@@ -65,6 +67,9 @@ module _ (c d : Contents) (part : Name) (alike : PlanAlike c (part ∷ []) d (pa
   days : days_of d ≡ days_of c
   days = days_same d c horizon
 
+  outside : (day : ℕ) → no_day d day ≡ no_day c day
+  outside day = λ i. where_so (nat_lt day (start i) || nat_le (start i + days i) day) (refusals.NoDay day)
+
   level_reply : (point : ℕ) → reply_of point d (TellsLevel part) ≡ reply_of point c (TellsLevel part)
   level_reply point =
       let refusal : level_refusal d part ≡ level_refusal c part = alike.level_refusals part (in_is (part ∷ []) part (inl refl)) in
@@ -81,6 +86,12 @@ module _ (c d : Contents) (part : Name) (alike : PlanAlike c (part ∷ []) d (pa
       let known : plan d part ≡ plan c part = alike.plans part reached in
       λ i. query_reply point (alike.plan_refusals i) (map (promise_line (start i) (lists_of (known i))) (range_with_len 0 (days i)))
 
+  trace_reply : ((t : ℕ) → trace d part t ≡ trace c part t) → (point day : ℕ) → reply_of point d (Traces part day) ≡ reply_of point c (Traces part day)
+  trace_reply same point day =
+      let lines : map share_line (trace d part (day - start_of d)) ≡ map share_line (trace c part (day - start_of c)) =
+      ap (λ t. map share_line (trace d part (day - t))) start ∙ ap (map share_line) (same (day - start_of c)) in
+      λ i. query_reply point (first_of (alike.plan_refusals i ∷ outside day i ∷ [])) (lines i)
+
   module _ (rows : cell_rows d (names.Part part) ≡ cell_rows c (names.Part part)) where
     lists : map (λ p. released (plan d p)) (parents d part) ≡ map (λ p. released (plan c p)) (parents c part)
     lists =
@@ -93,10 +104,9 @@ module _ (c d : Contents) (part : Name) (alike : PlanAlike c (part ∷ []) d (pa
 
     peg_reply : (point day : ℕ) → reply_of point d (Pegs part day) ≡ reply_of point c (Pegs part day)
     peg_reply point day =
-        let outside : no_day d day ≡ no_day c day = λ i. where_so (nat_lt day (start i) || nat_le (start i + days i) day) (refusals.NoDay day) in
         let lines : map peg_line (pegs d part (day - start_of d)) ≡ map peg_line (pegs c part (day - start_of c)) =
         ap (λ t. map peg_line (pegs d part (day - t))) start ∙ ap (map peg_line) (same_pegs (day - start_of c)) in
-        λ i. query_reply point (first_of (alike.plan_refusals i ∷ outside i ∷ [])) (lines i)
+        λ i. query_reply point (first_of (alike.plan_refusals i ∷ outside day i ∷ [])) (lines i)
 
     cost_reply : (point : ℕ) → reply_of point d (TellsCosts part) ≡ reply_of point c (TellsCosts part)
     cost_reply point =
@@ -145,11 +155,23 @@ module _ (c : Contents) (ordered : is_ordered c ≡ true) (cells : Cells) where
   of_part : (part : Name) → IsCollected c (wants.Part part) cells → cell_rows (records cells) (names.Part part) ≡ cell_rows c (names.Part part)
   of_part part k = rows_are (wants.Part part) k (names.Part part) (in_is (in_reach c (part ∷ [])) part (asked_reached c (part ∷ []) part (inl refl)))
 
+  -- the ancestors of a part in reach are in reach
+  all_above : (part n : Name) → is_among (in_reach c (part ∷ [])) n ≡ true → list_all (λ m. is_among (in_reach c (part ∷ [])) m) (parents c n) ≡ true
+  all_above part n e =
+      all_in_list (λ m. is_among (in_reach c (part ∷ [])) m) (parents c n) (λ p i. in_is (in_reach c (part ∷ [])) p (parent_reached c (part ∷ []) n p (is_in (in_reach c (part ∷ [])) n e) i))
+
+  traced : (part : Name) → IsCollected c (wants.Part part) cells → (t : ℕ) → trace (records cells) part t ≡ trace c part t
+  traced part k =
+      let job = job_of (wants.Part part) k in
+      trace_same c cells ordered job.ascending job.own (λ m. is_among (in_reach c (part ∷ [])) m) (λ n e. rows_are (wants.Part part) k (names.Part n) e)
+      (rows_are (wants.Part part) k names.Plan refl) (alike (wants.Part part) k refl).plans (all_above part) part (in_is (in_reach c (part ∷ [])) part (asked_reached c (part ∷ []) part (inl refl)))
+
   pub answered_alike : (question : Question) (point : ℕ) → IsCollected c (wants_of question) cells → reply_of point (records cells) question ≡ reply_of point c question
   answered_alike (ShowsCell cell) point k = ap (λ rows. replies.Rows point (map (λ row. row_text row.0 row.1) rows)) (rows_are (wants.Cell cell) k cell (same_cell cell))
   answered_alike (TellsLevel part) point k = level_reply c (records cells) part (alike (wants.Part part) k refl) (rows_are (wants.Part part) k names.Plan refl) point
   answered_alike (TellsPlan part) point k = plan_reply c (records cells) part (alike (wants.Part part) k refl) (rows_are (wants.Part part) k names.Plan refl) point
   answered_alike (Pegs part day) point k = peg_reply c (records cells) part (alike (wants.Part part) k refl) (rows_are (wants.Part part) k names.Plan refl) (of_part part k) point day
+  answered_alike (Traces part day) point k = trace_reply c (records cells) part (alike (wants.Part part) k refl) (rows_are (wants.Part part) k names.Plan refl) (traced part k) point day
   answered_alike (Promises part) point k = promise_reply c (records cells) part (alike (wants.Part part) k refl) (rows_are (wants.Part part) k names.Plan refl) point
   answered_alike (TellsCosts part) point k = cost_reply c (records cells) part (alike (wants.Part part) k refl) (rows_are (wants.Part part) k names.Plan refl) (of_part part k) point
   answered_alike (Selects query) point k =

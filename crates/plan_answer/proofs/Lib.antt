@@ -6,7 +6,9 @@ pub mod Costing
 pub mod Settled
 pub mod Refusing
 pub mod Ended
+pub mod KeptRows
 pub mod CollectedParts
+pub mod CollectedShares
 pub mod Collected
 pub mod Answered
 pub mod Asked

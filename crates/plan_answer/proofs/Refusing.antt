@@ -16,7 +16,7 @@ use Rattle.walk_names.specs.declared.trouble.Trouble.TheVariants.{Refused}
 use Rattle.walk_names.specs.Names.{first_four, IsTrouble}
 use Rattle.plan_jobs.specs.Jobs.{asked_by}
 use Rattle.session_rules.specs.Answers.{costs_refusal, query_reply}
-use Rattle.plan_answer.specs.Asks.{Question, ShowsCell, TellsLevel, TellsPlan, Pegs, Promises, TellsCosts, Selects, asks_for_plan}
+use Rattle.plan_answer.specs.Asks.{Question, ShowsCell, TellsLevel, TellsPlan, Pegs, Traces, Promises, TellsCosts, Selects, asks_for_plan}
 use Rattle.plan_answer.specs.Planned.{wants_of}
 use Rattle.plan_answer.specs.Replies.{question_lines, reply_of}
 
@@ -62,6 +62,7 @@ refused_reply c (ShowsCell cell) point refusal uses h = absurd (let never : ⊥ 
 refused_reply c (TellsLevel part) point refusal uses h = absurd (let never : ⊥ = cc in never)
 refused_reply c (TellsPlan part) point refusal uses h = ap (λ o. query_reply point o (question_lines c (TellsPlan part))) h
 refused_reply c (Pegs part day) point refusal uses h = ap (λ o. query_reply point (first_of (o ∷ no_day c day ∷ [])) (question_lines c (Pegs part day))) h
+refused_reply c (Traces part day) point refusal uses h = ap (λ o. query_reply point (first_of (o ∷ no_day c day ∷ [])) (question_lines c (Traces part day))) h
 refused_reply c (Promises part) point refusal uses h = ap (λ o. query_reply point o (question_lines c (Promises part))) h
 refused_reply c (TellsCosts part) point refusal uses h = ap (λ o. query_reply point (first_of (o ∷ costs_refusal c part ∷ [])) (question_lines c (TellsCosts part))) h
 refused_reply c (Selects query) point refusal uses h =

@@ -1,5 +1,5 @@
 -- A walk all of whose parts are settled, none of them too large, knows the plans of all.
-use Rattle.std.proofs.Common.{◌≡◌, List, [], ◌∷◌, refl, sym, ◌∙◌, ap, Bool, true, false, not}
+use Rattle.std.proofs.Common.{◌≡◌, List, [], ◌∷◌, refl, sym, ◌∙◌, ap, subst, Bool, true, false, not}
 use Rattle.std.specs.Prelude.{Option, Some, None, is_some, Contains}
 use Rattle.plan_schema.specs.declared.name.Name.{Name}
 use Rattle.plan_schema.specs.declared.key.Key.TheVariants as keys
@@ -13,6 +13,17 @@ use Rattle.planning_rules.specs.Refused.{in_reach, least_name, is_part, lacks_ca
 use Rattle.planning_rules.proofs.Membership.{IsIn, in_contained, all_at}
 use Rattle.planning_rules.proofs.LeastNames.{least_found}
 use Rattle.plan_jobs.proofs.Gathering.{parent_reached}
+use Rattle.plan_jobs.specs.declared.job.Job.{Job}
+use Rattle.plan_jobs.specs.declared.job.Wanted.{Wanted}
+use Rattle.plan_jobs.specs.Jobs.{asked_by}
+use Rattle.plan_walk.specs.View.{View}
+use Rattle.walk_rules.specs.Cells.{records}
+use Rattle.full_pegging.specs.Walking.{IsTraced}
+use Rattle.plan_answer.specs.Asks.{Question}
+use Rattle.session_rules.specs.Answers.{query_reply}
+use Rattle.command_words.specs.declared.reply.Reply.{Reply}
+use Rattle.plan_answer.specs.Planned.{wants_of}
+use Rattle.plan_answer.specs.Replies.{question_refusal, question_lines, reply_of}
 use Rattle.walk_rules.specs.Walks.{Parts, names_of, known_at, IsSettled, is_known, is_blocked}
 use Rattle.part_pegs.specs.Planned.{ArePlanned}
 use Rattle.plan_answer.specs.Settled.{AreAllSettled}
@@ -71,3 +82,16 @@ module _ (c : Contents) (asked : List Name) (parts : Parts) (s : AreAllSettled c
     right = λ n i. sym (there n i).0;
     outcomes = λ n i. (there n i).1;
   }
+
+-- a walk that can be traced knows the plans that its question asks for
+module _ (w : View) (job : Job) (same : job ≡ w.job) (asked : Question) (wants : w.job.wanted ≡ wants_of asked) where
+  pub planned_for : IsTraced w (asked_by (records w.job.cells) w.job.wanted) → ArePlanned (records job.cells) (asked_by (records job.cells) (wants_of asked)) (known_at w.parts)
+  planned_for t =
+      subst (λ (j : Job). ArePlanned (records j.cells) (asked_by (records j.cells) (wants_of asked)) (known_at w.parts)) (sym same)
+      (subst (λ (wanted : Wanted). ArePlanned (records w.job.cells) (asked_by (records w.job.cells) wanted) (known_at w.parts)) wants t.planned)
+
+  -- and what its job's records say is what its answer is
+  pub reply_for : (reply : Reply) (refusal : Option Refusal) → question_refusal (records job.cells) asked ≡ refusal → reply ≡ query_reply job.point refusal (question_lines (records job.cells) asked)
+      → reply ≡ reply_of w.job.point (records w.job.cells) asked
+  reply_for reply refusal refused is =
+      is ∙ ap (λ o. query_reply job.point o (question_lines (records job.cells) asked)) (sym refused) ∙ ap (λ (j : Job). reply_of j.point (records j.cells) asked) same

@@ -14,12 +14,13 @@ use Rattle.plan_answer.specs.declared.ask.Ask.{Ask}
 use Rattle.plan_answer.specs.declared.ask.Ask.TheVariants as asks
 
 -- a question about one scenario: for a cell's records, a part's level, its plan, where its gross requirements on a day come from, what
--- can be promised of it, what its orders cost, and for the parts that meet a condition
+-- its planned receipt on a day is for, what can be promised of it, what its orders cost, and for the parts that meet a condition
 pub data Question : Type 0 where
   ShowsCell : CellName → Question
   TellsLevel : Name → Question
   TellsPlan : Name → Question
   Pegs : Name → ℕ → Question
+  Traces : Name → ℕ → Question
   Promises : Name → Question
   TellsCosts : Name → Question
   Selects : QueryTree → Question
@@ -30,6 +31,7 @@ question (asks.Show cell) = ShowsCell cell
 question (asks.Level part) = TellsLevel part
 question (asks.Plan part) = TellsPlan part
 question (asks.Peg part day) = Pegs part day
+question (asks.Trace part day) = Traces part day
 question (asks.Atp part) = Promises part
 question (asks.Cost part) = TellsCosts part
 question (asks.Select query) = Selects (query_tree query)
@@ -40,6 +42,7 @@ question_of (commands.Show scenario cell) = Some (ShowsCell cell)
 question_of (commands.Level scenario part) = Some (TellsLevel part)
 question_of (commands.Plan scenario part) = Some (TellsPlan part)
 question_of (commands.Peg scenario part day) = Some (Pegs part day)
+question_of (commands.Trace scenario part day) = Some (Traces part day)
 question_of (commands.Atp scenario part) = Some (Promises part)
 question_of (commands.Cost scenario part) = Some (TellsCosts part)
 question_of (commands.Select scenario text) = option_map Selects (result_ok (query_of text))
@@ -51,6 +54,7 @@ wanted_by (commands.Show scenario cell) = Some (scenario, wants.Cell cell)
 wanted_by (commands.Level scenario part) = Some (scenario, wants.Part part)
 wanted_by (commands.Plan scenario part) = Some (scenario, wants.Part part)
 wanted_by (commands.Peg scenario part day) = Some (scenario, wants.Part part)
+wanted_by (commands.Trace scenario part day) = Some (scenario, wants.Part part)
 wanted_by (commands.Atp scenario part) = Some (scenario, wants.Part part)
 wanted_by (commands.Cost scenario part) = Some (scenario, wants.Part part)
 wanted_by (commands.Select scenario text) = Some (scenario, wants.All)
@@ -62,6 +66,7 @@ asks_for_plan (ShowsCell cell) = false
 asks_for_plan (TellsLevel part) = false
 asks_for_plan (TellsPlan part) = true
 asks_for_plan (Pegs part day) = true
+asks_for_plan (Traces part day) = true
 asks_for_plan (Promises part) = true
 asks_for_plan (TellsCosts part) = true
 asks_for_plan (Selects query) = queries.asks_for_plan query

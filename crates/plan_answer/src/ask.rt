@@ -23,6 +23,8 @@ pub enum Ask {
     Plan(Name),
     /// Where the gross requirements of a part on a day come from.
     Peg(Name, Day),
+    /// For which independent demands the planned receipt of a part on a day is meant.
+    Trace(Name, Day),
     /// What can be promised of a part on each day.
     Atp(Name),
     /// What the orders of a part with least-cost lots cost, and why no others cost less.
@@ -41,6 +43,7 @@ pub fn ask_of(alloc: Global, command: &Command<'_>) -> Result<Option<Ask>, Alloc
         Command::Level { part, .. } => Some(Ask::Level(*part)),
         Command::Plan { part, .. } => Some(Ask::Plan(*part)),
         Command::Peg { part, day, .. } => Some(Ask::Peg(*part, *day)),
+        Command::Trace { part, day, .. } => Some(Ask::Trace(*part, *day)),
         Command::Atp { part, .. } => Some(Ask::Atp(*part)),
         Command::Cost { part, .. } => Some(Ask::Cost(*part)),
         Command::Select { query, .. } => Some(Ask::Select(query_in(alloc, query)?)),
@@ -62,7 +65,7 @@ pub fn uses_plan(ask: &Ask) -> bool
 {
     match ask {
         Ask::Show(_) | Ask::Level(_) => false,
-        Ask::Plan(_) | Ask::Peg(_, _) | Ask::Atp(_) | Ask::Cost(_) => true,
+        Ask::Plan(_) | Ask::Peg(_, _) | Ask::Trace(_, _) | Ask::Atp(_) | Ask::Cost(_) => true,
         Ask::Select(query) => needs_plan(query),
     }
 }

@@ -10,12 +10,13 @@ mod planned;
 mod plans;
 mod records;
 mod still;
+mod traces;
 mod walks;
 mod want;
 
 pub use ask::{Ask, ask_of, uses_plan};
 pub use laws::{asked_is_answered, collected_cells_are_enough, questions_are_answered};
-pub use lines::{peg_lines, plan_lines, promise_lines};
+pub use lines::{peg_lines, plan_lines, promise_lines, share_lines};
 pub use plans::from_plans;
 pub use records::shown_rows;
 pub use still::from_records;

@@ -4,10 +4,12 @@ ghost use Rattle.std.specs.List.{range_with_len};
 ghost use Rattle.arrayvec.specs.ArrayVec.{array_vec_len};
 ghost use Rattle.plan_schema.specs.Day.{day_text};
 ghost use Rattle.pegging.specs.Pegs.{shown};
+ghost use Rattle.full_pegging.specs.Following.{shown_share};
 ghost use Rattle.session_rules.specs.Answers as spec;
 ghost use Rattle.plan_answer.specs.Replies.{promised_line};
 
 use command_words::Lines;
+use full_pegging::Share;
 use pegging::Peg;
 use plan_schema::{Day, Outcome, Qty};
 use row_text::{RowText, push_number, push_word};
@@ -103,6 +105,39 @@ fn peg_line(peg: &Peg) -> RowText
         Peg::Bill(parent, qty) => {
             let _ = text.try_extend_from_slice(b"BILL");
             push_word(&mut text, parent.as_bytes());
+            push_number(&mut text, *qty);
+        }
+    }
+    text
+}
+
+/// A line for each share of a planned receipt.
+pub fn share_lines(alloc: Global, shares: &[Share]) -> Result<Lines, AllocError>
+    ensures { IfOk result (λ lines. lines
+        ≡ map (λ share. spec.share_line (shown_share share)) shares.now) }
+{
+    let mut lines = Lines::new(alloc);
+    for share in shares {
+        lines.push(share_line(share).as_slice())?;
+    }
+    Ok(lines)
+}
+
+/// The line of a share.
+fn share_line(share: &Share) -> RowText
+    ensures { result.items ≡ spec.share_line (shown_share share.now) }
+{
+    let mut text = RowText::new();
+    match share {
+        Share::Demand { part, order, qty } => {
+            let _ = text.try_extend_from_slice(b"DEMAND");
+            push_word(&mut text, part.as_bytes());
+            push_word(&mut text, order.as_bytes());
+            push_number(&mut text, *qty);
+        }
+        Share::Surplus { part, qty } => {
+            let _ = text.try_extend_from_slice(b"SURPLUS");
+            push_word(&mut text, part.as_bytes());
             push_number(&mut text, *qty);
         }
     }

@@ -18,7 +18,7 @@ use query_rows::Plans;
 use std::alloc::{AllocError, Global};
 
 /// The day of a horizon that a date is, if it is one.
-fn day_in(start: &Day, days: u16, date: &Day) -> Option<u16>
+pub(crate) fn day_in(start: &Day, days: u16, date: &Day) -> Option<u16>
     ensures { MatchOption result
         ((nat_lt date.now start.now || nat_le (start.now + days) date.now) ≡ true)
         (λ at. ((nat_lt date.now start.now || nat_le (start.now + days) date.now) ≡ false)

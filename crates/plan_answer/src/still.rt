@@ -57,6 +57,8 @@ pub fn from_records(alloc: Global, job: &Job, ask: &Ask) -> Result<Reply, AllocE
         Ask::Show(cell) => Ok(Reply::Rows(job.point, shown_rows(alloc, job, cell)?)),
         Ask::Level(part) => level_reply(alloc, job, part),
         Ask::Select(query) => Ok(Reply::Rows(job.point, rows_still(alloc, query, job)?)),
-        Ask::Plan(_) | Ask::Peg(_, _) | Ask::Atp(_) | Ask::Cost(_) => unreachable!(),
+        Ask::Plan(_) | Ask::Peg(_, _) | Ask::Trace(_, _) | Ask::Atp(_) | Ask::Cost(_) => {
+            unreachable!()
+        }
     }
 }

@@ -11,7 +11,6 @@ ghost use Rattle.plan_answer.specs.Settled.{AreAllSettled};
 use crate::ask::Ask;
 use crate::plans::from_plans;
 use command_words::Reply;
-use part_pegs::WalkPlans;
 use plan_schema::Refusal;
 use plan_walk::Walk;
 use std::alloc::{AllocError, Global};
@@ -27,7 +26,8 @@ pub fn from_settled(alloc: Global, walk: &Walk, ask: &Ask) -> Result<Reply, Allo
     ensures { IfOk result (λ reply. reply
         ≡ reply_of walk.now.job.point (records walk.now.job.cells) (question ask.now)) }
 {
-    from_plans(alloc, walk.job(), &WalkPlans { walk }, ask)
+    walk.holds();
+    from_plans(alloc, walk, ask)
 }
 
 /// The reply to a question that asks for plans, at its job's point, from a walk that is at its end: refused where a part in reach is too

@@ -16,6 +16,7 @@ pub fn wanted(command: &Command<'_>) -> Option<(Name, Wanted)>
         Command::Level { scenario, part }
         | Command::Plan { scenario, part }
         | Command::Peg { scenario, part, .. }
+        | Command::Trace { scenario, part, .. }
         | Command::Atp { scenario, part }
         | Command::Cost { scenario, part } => Some((*scenario, Wanted::Part(*part))),
         Command::Select { scenario, .. } => Some((*scenario, Wanted::All)),

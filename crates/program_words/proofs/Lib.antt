@@ -8,4 +8,5 @@ pub mod Seen
 pub mod Steps
 pub mod Taken
 pub mod Told
+pub mod ToldStill
 pub mod Worked

@@ -39,11 +39,11 @@ pub record IsTold (run : RunWords) : Type 0 where
   pub memo_most : run.memo ≤ MEMO_LIMIT
 
 -- what an option that holds was made from
-from_option : {A B : Type 0} (found : Option A) (make : A → Option B) (b : B) → option_and_then make found ≡ Some b → (a : A) × ((found ≡ Some a) × (make a ≡ Some b))
+pub from_option : {A B : Type 0} (found : Option A) (make : A → Option B) (b : B) → option_and_then make found ≡ Some b → (a : A) × ((found ≡ Some a) × (make a ≡ Some b))
 from_option None make b h = cc
 from_option (Some a) make b h = (a, (refl, h))
 
-fit : {A : Type 0} (fits : Bool) (a b : A) → (if fits then Some a else None) ≡ Some b → (fits ≡ true) × (a ≡ b)
+pub fit : {A : Type 0} (fits : Bool) (a b : A) → (if fits then Some a else None) ≡ Some b → (fits ≡ true) × (a ≡ b)
 fit true a b h = (refl, cc)
 fit false a b h = cc
 
@@ -52,7 +52,7 @@ within true true v n h = (refl, cc)
 within true false v n h = cc
 within false fits v n h = cc
 
-number_within : (low high : ℕ) (word : List ℕ) (n : ℕ) → number_in low high word ≡ Some n → (low ≤ n) × (n ≤ high)
+pub number_within : (low high : ℕ) (word : List ℕ) (n : ℕ) → number_in low high word ≡ Some n → (low ≤ n) × (n ≤ high)
 unfolding number_of
 number_within low high word n h =
     let both = within (is_number word) (nat_le low (number_from 0 word) && nat_le (number_from 0 word) high) (number_from 0 word) n h in
@@ -194,16 +194,16 @@ still_make which.Replay names n s b i h = absurd (no_replay names n s b i h)
 still_make which.Make names n s b i h = make_from names n s b i h
 still_make which.Trial names n s b i h = absurd (no_trial names n s b i h)
 
-still_from : (memos : List (List ℕ)) (found : Option Still) (words : Still) → without_memo memos found ≡ Some (program.Still words) → found ≡ Some words
+pub still_from : (memos : List (List ℕ)) (found : Option Still) (words : Still) → without_memo memos found ≡ Some (program.Still words) → found ≡ Some words
 still_from [] None words h = cc
 still_from [] (Some other) words h = cc
 still_from (value ∷ more) found words h = cc
 
-no_run : (found : Option RunWords) (words : Still) → option_map program.Run found ≡ Some (program.Still words) → ⊥
+pub no_run : (found : Option RunWords) (words : Still) → option_map program.Run found ≡ Some (program.Still words) → ⊥
 no_run None words h = cc
 no_run (Some run) words h = cc
 
-no_store : (found : Option RunWords) (words : Still) → option_map (λ run. program.Keep (with_store run)) found ≡ Some (program.Still words) → ⊥
+pub no_store : (found : Option RunWords) (words : Still) → option_map (λ run. program.Keep (with_store run)) found ≡ Some (program.Still words) → ⊥
 no_store None words h = cc
 no_store (Some run) words h = cc
 

@@ -1,5 +1,5 @@
 -- How a session ends, once what the page held is written.
-use Rattle.std.proofs.Common.{◌≡◌, ℕ, ◌+◌, ◌≤◌, ◌<◌, List, [], ◌∷◌, ◌++◌, length, take, Option, Some, None, true, false, length-append, Result, Ok, Err, refl, sym, ap, subst, ◌∙◌, arith, append-nil, inl, inr}
+use Rattle.std.proofs.Common.{◌≡◌, ℕ, ◌+◌, ◌≤◌, ◌<◌, List, [], ◌∷◌, ◌++◌, length, take, drop, Option, Some, None, true, false, length-append, Result, Ok, Err, refl, sym, ap, subst, ◌∙◌, arith, append-nil, inl, inr}
 use Rattle.std.specs.Prelude.{◌⊎◌}
 use Rattle.std.proofs.Math.Seq.{take-length, take-nil}
 use Rattle.std.proofs.lemmas.List.{take_all}
@@ -21,11 +21,11 @@ use Rattle.request_loop.specs.Chains.{IsChain}
 use Rattle.request_loop.specs.Printed.{IsHeld}
 use Rattle.request_loop.specs.Reading.{counted_lines, requests_ending, requests_from, whole_requests, left_over}
 use Rattle.request_loop.specs.Handed.{served_of, IsFlushed, HasEnded}
-use Rattle.request_loop.specs.Serving.{byte_limit, line_limit, lines_within, heard_within, has_quit, is_past_limit, Serves, IsServed, IsServedShort, HasStopped, SoFar, HasQuit, IsOver, IsKeptShort, ServedMore, ServedLast, why_of}
+use Rattle.request_loop.specs.Serving.{byte_limit, line_limit, lines_within, heard_within, has_quit, is_past_limit, Serves, IsServed, IsServedShort, HasStopped, SoFar, HasQuit, IsOver, IsKeptShort, IsKeptInside, ServedMore, ServedLast, why_of}
 use Rattle.request_loop.specs.declared.gathering.Gathering.{Gathering}
 use Rattle.request_loop.proofs.Held.{written_all, printed}
 use Rattle.request_loop.proofs.FromLeft.{requests_are}
-use Rattle.request_loop.proofs.Limits.{is_within, past_bytes, quit_in_time, one_left, all_within, within_full, within_bytes}
+use Rattle.request_loop.proofs.Limits.{is_within, past_bytes, quit_in_time, one_left, all_within, within_full, within_bytes, within_begins, within_long}
 use Rattle.request_loop.proofs.OneLine.{none_asked}
 
 whole_front : (taken then : Option (List ℕ)) (page : List ℕ) → then ≡ extended taken page → TookFront taken then page
@@ -63,6 +63,7 @@ module _ {S K : Type 0} (gives : S → Name → Request → Reply → S → Type
           printed = printed before (taken sink) (taken then) page log held (front_of (ends.Ended requests) result flushed);
           rest = inl refl;
           told = λ why is. absurd (no_why why is flushed);
+          heard = λ why is long. absurd (no_why why is flushed);
           over = λ is. absurd (no_limit is flushed);
         };
         limit = λ is. absurd (no_limit is flushed);
@@ -98,6 +99,7 @@ module _ {S K : Type 0} (gives : S → Name → Request → Reply → S → Type
           printed = printed before (taken sink) (taken then) page log held (front_of ends.Limit result flushed);
           rest = inl refl;
           told = λ why is. absurd (no_why why is flushed);
+          heard = λ why is long. absurd (no_why why is flushed);
           over = λ is. heard;
         };
         limit = λ is. limit;
@@ -128,8 +130,9 @@ module _ {S K : Type 0} (gives : S → Name → Request → Reply → S → Type
   kept_why whys.Worn other requests is = cc
 
   -- nothing more was answered
-  pub stopped_at : (why : Why) (requests : ℕ) (result : Served) → IsKeptShort gives stops old new input page before (taken sink) why → IsFlushed taken sink then page (served_of requests (Err (stop.Kept why))) result → Serves gives stops old new input before (taken then) result
-  stopped_at why requests result h flushed =
+  pub stopped_at : (why : Why) (requests : ℕ) (result : Served) → (h : IsKeptShort gives stops old new input page before (taken sink) why) → (is_past_limit input ≡ true → (later : List Request) × (heard_within input ≡ requests_in h.log ++ h.request ∷ later))
+      → IsFlushed taken sink then page (served_of requests (Err (stop.Kept why))) result → Serves gives stops old new input before (taken then) result
+  stopped_at why requests result h heard flushed =
       record {
         whole = λ count is. absurd (no_end count is flushed);
         short = record {
@@ -139,8 +142,9 @@ module _ {S K : Type 0} (gives : S → Name → Request → Reply → S → Type
           last = h.last;
           chain = h.chain;
           printed = printed before (taken sink) (taken then) page h.log h.held (front_of (served_of requests (Err (stop.Kept why))) result flushed);
-          rest = inr (why, has_stopped);
-          told = λ other is. subst (λ w. HasStopped gives stops h.last new h.log (requests_of input) before (taken then) w) (by_told other is flushed) has_stopped;
+          rest = inr (why, has_stopped (requests_of input) h.later h.asked);
+          told = λ other is. subst (λ w. HasStopped gives stops h.last new h.log (requests_of input) before (taken then) w) (by_told other is flushed) (has_stopped (requests_of input) h.later h.asked);
+          heard = λ other is long. (let it = heard long in subst (λ w. HasStopped gives stops h.last new h.log (heard_within input) before (taken then) w) (by_told other is flushed) (has_stopped (heard_within input) it.0 it.1));
           over = λ is. absurd (no_limit is flushed);
         };
         limit = λ is. absurd (no_limit is flushed);
@@ -150,8 +154,8 @@ module _ {S K : Type 0} (gives : S → Name → Request → Reply → S → Type
       all_written none (inl f) = f.0
       all_written none (inr f) = f.0.front ∙ ap (λ p. extended (taken sink) (take f.0.count p)) none ∙ ap (extended (taken sink)) (take-nil f.0.count) ∙ ap (extended (taken sink)) (sym none)
 
-      has_stopped : HasStopped gives stops h.last new h.log (requests_of input) before (taken then) why
-      has_stopped = record { request = h.request; later = h.later; asked = h.asked; stopped = h.stopped; written = λ change is. written_all before (taken sink) page h.log (taken then) h.held (all_written (h.cleared change is) flushed) }
+      has_stopped : (requests : List Request) (later : List Request) → requests ≡ requests_in h.log ++ h.request ∷ later → HasStopped gives stops h.last new h.log requests before (taken then) why
+      has_stopped all later asked = record { request = h.request; later = later; asked = asked; stopped = h.stopped; written = λ change is. written_all before (taken sink) page h.log (taken then) h.held (all_written (h.cleared change is) flushed) }
 
       no_end : (count : ℕ) → result ≡ ends.Ended count → IsFlushed taken sink then page (served_of requests (Err (stop.Kept why))) result → ⊥
       no_end count is (inl f) = no_kept_end why requests count (sym f.1 ∙ is)
@@ -175,30 +179,50 @@ module _ {S K : Type 0} (gives : S → Name → Request → Reply → S → Type
       let end = sink_why fault requests result same.1 in
       subst (λ t. Serves gives stops old new input before t result) (sym same.0) (record {
         whole = λ count is. absurd (no_fault_end result end is);
-        short = record { log = h.log; later = h.later; asked = h.asked; last = h.last; chain = h.chain; printed = h.printed; rest = h.rest; told = λ why is. absurd (no_fault_why result why end is); over = λ is. absurd (no_fault_limit result end is) };
+        short = record { log = h.log; later = h.later; asked = h.asked; last = h.last; chain = h.chain; printed = h.printed; rest = h.rest; told = λ why is. absurd (no_fault_why result why end is); heard = λ why is long. absurd (no_fault_why result why end is); over = λ is. absurd (no_fault_limit result end is) };
         limit = λ is. absurd (no_fault_limit result end is);
       })
+
+  -- there was one line more than there may be
+  over_at : (result : Served) → IsOver gives stops old new input page before (taken sink) → line_limit ≤ length (lines_from (Some []) (take byte_limit input)).0 → IsFlushed taken sink then page ends.Limit result → Serves gives stops old new input before (taken then) result
+  over_at result more full end =
+      let same : lines_within input ≡ more.read = all_within input more.read more.left more.whole (more.full ∙ sym (within_full input full)) in
+      too_long result more.log more.later more.asked more.chain more.held more.limit (sym more.heard ∙ ap (λ ls. whole_requests (counted_lines 1 ls) None) (sym same)) end
+
+  quit_at : (lines requests : ℕ) (result : Served) → HasQuit gives stops old new input lines requests page before (taken sink) → is_past_limit input ≡ false → IsFlushed taken sink then page (ends.Ended requests) result → Serves gives stops old new input before (taken then) result
+  quit_at lines requests result more within end =
+      all_answered requests more.log result (sym (requests_are input) ∙ ap (λ l. requests_from (counted_lines 1 l) None) more.whole ∙ more.all more.left) more.many more.chain more.held within end
+
+  -- a request that a line within the limits completed is one of the whole ones there
+  heard_inside : (lines : ℕ) (why : Why) → lines ≤ length (lines_from (Some []) (take byte_limit input)).0 → (h : IsKeptInside gives stops old new input lines page before (taken sink) why)
+      → (later : List Request) × (heard_within input ≡ requests_in h.short.log ++ h.short.request ∷ later)
+  heard_inside lines why early h =
+      let counted = h.counted in let long = within_long input lines early h.few in
+      let begins = within_begins input h.read h.left h.whole (omega (arith, counted, long)) in
+      let more = h.all (drop (length h.read) (lines_within input)) in
+      (more.0, ap (λ lines. whole_requests (counted_lines 1 lines) None) begins ∙ more.1)
 
   -- a session that ended with one of these
   pub by_stop : (found : Stop) (ls : List (Option (List ℕ))) (lines requests : ℕ) (user : Name) (rows : Option Gathering) (result : Served) → ServedMore gives stops old new input ls lines requests user rows page before (taken sink) (Err found) → HasEnded taken sink then page requests (Err found) result
       → (found ≡ stop.Quit → HasQuit gives stops old new input lines requests page before (taken sink) → is_past_limit input ≡ false)
-      → (found ≡ stop.Limit → line_limit ≤ length (lines_from (Some []) (take byte_limit input)).0) → Serves gives stops old new input before (taken then) result
-  by_stop (stop.Sink fault) ls lines requests user rows result more end within full = unwritten_at fault requests result more end
-  by_stop (stop.Kept why) ls lines requests user rows result more end within full = stopped_at why requests result more end
-  by_stop stop.Limit ls lines requests user rows result more end within full =
-      let same : lines_within input ≡ more.read = all_within input more.read more.left more.whole (more.full ∙ sym (within_full input (full refl))) in
-      too_long result more.log more.later more.asked more.chain more.held more.limit (sym more.heard ∙ ap (λ ls. whole_requests (counted_lines 1 ls) None) (sym same)) end
-  by_stop stop.Quit ls lines requests user rows result more end within full =
-      all_answered requests more.log result (sym (requests_are input) ∙ ap (λ l. requests_from (counted_lines 1 l) None) more.whole ∙ more.all more.left) more.many more.chain more.held (within refl more) end
+      → (found ≡ stop.Limit → line_limit ≤ length (lines_from (Some []) (take byte_limit input)).0) → lines ≤ length (lines_from (Some []) (take byte_limit input)).0 → Serves gives stops old new input before (taken then) result
+  by_stop (stop.Sink fault) ls lines requests user rows result more end within full early = unwritten_at fault requests result more end
+  by_stop (stop.Kept why) ls lines requests user rows result more end within full early = stopped_at why requests result more.short (λ long. heard_inside lines why early more) end
+  by_stop stop.Limit ls lines requests user rows result more end within full early = over_at result more (full refl) end
+  by_stop stop.Quit ls lines requests user rows result more end within full early = quit_at lines requests result more (within refl more) end
 
   -- one that was read to its end, or stopped in its last line
   pub by_last : (end : Result (Unit {0}) Stop) (lines requests : ℕ) (user : Name) (result : Served) → ServedLast gives stops old new input lines requests user page before (taken sink) end → HasEnded taken sink then page requests end result
       → length input ≤ byte_limit → (end ≡ Err stop.Quit → HasQuit gives stops old new input lines requests page before (taken sink) → is_past_limit input ≡ false)
       → (end ≡ Err stop.Limit → line_limit ≤ length (lines_from (Some []) input).0) → Serves gives stops old new input before (taken then) result
   by_last (Ok done) lines requests user result all end few quit full = all_answered requests all.log result all.asked all.many all.chain all.held (is_within input few all.few) end
-  by_last (Err found) lines requests user result more end few quit full =
+  by_last (Err (stop.Sink fault)) lines requests user result more end few quit full = unwritten_at fault requests result more end
+  by_last (Err (stop.Kept why)) lines requests user result more end few quit full =
+      stopped_at why requests result more.short (λ long. absurd (let never : true ≡ false = sym long ∙ is_within input few more.few in let no : ⊥ = cc in no)) end
+  by_last (Err stop.Limit) lines requests user result more end few quit full =
       let whole : take byte_limit input ≡ input = take_all byte_limit input few in
-      by_stop found [] lines requests user None result more end (λ is. quit (ap Err is)) (λ is. subst (λ bytes. line_limit ≤ length (lines_from (Some []) bytes).0) (sym whole) (full (ap Err is)))
+      over_at result more (subst (λ bytes. line_limit ≤ length (lines_from (Some []) bytes).0) (sym whole) (full refl)) end
+  by_last (Err stop.Quit) lines requests user result more end few quit full = quit_at lines requests result more (quit refl more) end
 
   -- a byte past the last that may be
   pub over_bytes : (front rest : List ℕ) (ls : List (Option (List ℕ))) (lines requests : ℕ) (user : Name) (rows : Option Gathering) (result : Served) → input ≡ front ++ rest → length front ≡ byte_limit → 0 < length rest → length (lines_from (Some []) front).0 ≡ lines

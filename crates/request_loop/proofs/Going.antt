@@ -148,6 +148,7 @@ module _ {S : Type 0} (gives : S → Name → Request → Reply → S → Type 0
             printed = printed before taken after page s.log s.held front;
             rest = inl refl;
             told = λ why is. absurd (no_why served no_fault no_worn why is);
+            heard = λ why is long. absurd (no_why served no_fault no_worn why is);
             over = λ is. absurd (no_limit is);
           };
           limit = λ is. absurd (no_limit is);

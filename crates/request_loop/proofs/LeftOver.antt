@@ -16,7 +16,7 @@ use Rattle.request_loop.specs.Chains.{IsChain}
 use Rattle.request_loop.specs.Printed.{IsHeld}
 use Rattle.request_loop.specs.Reading.{Rows, counted_lines, requests_from, left_over, load_request, requests_ending}
 use Rattle.request_loop.specs.Gathered.{IsGathered, AreGathered}
-use Rattle.request_loop.specs.Serving.{line_limit, SoFar, HasAnswered, IsKeptShort, IsServedShort}
+use Rattle.request_loop.specs.Serving.{line_limit, SoFar, HasAnswered, IsKeptLast, IsServedShort}
 use Rattle.request_loop.proofs.Held.{one_quiet, printed}
 use Rattle.request_loop.proofs.Chained.{chain_more}
 use Rattle.request_loop.proofs.FromLeft.{requests_are}
@@ -102,20 +102,24 @@ module _ {S : Type 0} (gives : S → Name → Request → Reply → S → Type 0
             printed = printed before taken then (page ++ reply_text reply) (h.log ++ exchange ∷ []) (held taken (page ++ reply_text reply) [] (extended_nil taken) refl) front;
             rest = inl refl;
             told = λ why same. absurd (let no : ⊥ = cc in no);
+            heard = λ why same long. absurd (let no : ⊥ = cc in no);
             over = λ same. absurd (let no : ⊥ = cc in no);
           }
 
     -- or nothing more is answered
-    pub one_kept : (new : S) (why : Why) → stops now user (to_tell g.line bad) why new → IsKeptShort gives stops old new input page before taken why
+    pub one_kept : (new : S) (why : Why) → stops now user (to_tell g.line bad) why new → IsKeptLast gives stops old new input page before taken why
     one_kept new why stopped =
         record {
-          log = h.log;
-          request = to_tell g.line bad;
-          later = [];
-          asked = all_faulty;
-          last = now;
-          chain = h.chain;
-          stopped = subst (λ u. stops now u (to_tell g.line bad) why new) h.user_is stopped;
-          held = h.held;
-          cleared = λ change made. absurd (let no : ⊥ = cc in no);
+          short = record {
+            log = h.log;
+            request = to_tell g.line bad;
+            later = [];
+            asked = all_faulty;
+            last = now;
+            chain = h.chain;
+            stopped = subst (λ u. stops now u (to_tell g.line bad) why new) h.user_is stopped;
+            held = h.held;
+            cleared = λ change made. absurd (let no : ⊥ = cc in no);
+          };
+          few = few_lines;
         }

@@ -12,3 +12,4 @@ pub mod OneLine
 pub mod Pieces
 pub mod Going
 pub mod Exits
+pub mod LastLines

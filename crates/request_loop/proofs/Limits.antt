@@ -151,21 +151,27 @@ within_none input read left parts few none =
     let apart : read ≡ front ++ drop (length front) read = sym (take-append-drop (length front) read) ∙ ap (λ l. l ++ drop (length front) read) (sym same) in
     front_has_none front (drop (length front) read) (ap (λ ls. has_quit (asked_in ls)) (sym apart) ∙ none)
 
--- they have one, where they begin with lines that have one, whatever stands behind
-within_some : (input : List ℕ) (read left : List (Option (List ℕ))) → lines_of input ≡ read ++ left → length read ≤ length (lines_within input) → ((more : List (Option (List ℕ))) → has_quit (asked_in (read ++ more)) ≡ true)
-    → has_quit (asked_in (lines_within input)) ≡ true
-within_some input read left parts few some =
+-- they begin with lines that end within the limits
+pub within_begins : (input : List ℕ) (read left : List (Option (List ℕ))) → lines_of input ≡ read ++ left → length read ≤ length (lines_within input) → lines_within input ≡ read ++ drop (length read) (lines_within input)
+within_begins input read left parts few =
     let front = lines_within input in
     let behind = within_front input in
     let same : read ≡ take (length read) front = sym (take-append_seam read left) ∙ ap (take (length read)) (sym parts ∙ behind.1) ∙ take-append-le (length read) front behind.0 few in
-    let apart : front ≡ read ++ drop (length read) front = sym (take-append-drop (length read) front) ∙ ap (λ l. l ++ drop (length read) front) (sym same) in
-    ap (λ ls. has_quit (asked_in ls)) apart ∙ some (drop (length read) front)
+    sym (take-append-drop (length read) front) ∙ ap (λ l. l ++ drop (length read) front) (sym same)
+
+-- they have one, where they begin with lines that have one, whatever stands behind
+within_some : (input : List ℕ) (read left : List (Option (List ℕ))) → lines_of input ≡ read ++ left → length read ≤ length (lines_within input) → ((more : List (Option (List ℕ))) → has_quit (asked_in (read ++ more)) ≡ true)
+    → has_quit (asked_in (lines_within input)) ≡ true
+within_some input read left parts few some = ap (λ ls. has_quit (asked_in ls)) (within_begins input read left parts few) ∙ some (drop (length read) (lines_within input))
 
 all_of : (taken limit all : ℕ) → taken ≡ min limit all → limit ≤ all → taken ≡ limit
 all_of taken limit all is many = omega (arith, is, many)
 
 none_over : (taken limit all lines : ℕ) → taken ≡ min limit all → all ≡ lines → lines ≤ limit → taken ≡ lines
 none_over taken limit all lines is same few = omega (arith, is, same, few)
+
+fits_both : (lines taken all limit : ℕ) → taken ≡ min limit all → lines ≤ all → lines ≤ limit → lines ≤ taken
+fits_both lines taken all limit is many few = omega (arith, is, many, few)
 
 -- as many lines as those within the limits, from the left, are these
 pub all_within : (input : List ℕ) (read left : List (Option (List ℕ))) → lines_of input ≡ read ++ left → length read ≡ length (lines_within input) → lines_within input ≡ read
@@ -178,6 +184,11 @@ all_within input read left parts long =
 pub within_full : (input : List ℕ) → line_limit ≤ length (lines_from (Some []) (take byte_limit input)).0 → length (lines_within input) ≡ line_limit
 unfolding lines_within
 within_full input many = all_of _ line_limit _ (length-take line_limit (lines_from (Some []) (take byte_limit input)).0) many
+
+-- so many lines are among them that end within the first bytes, and of which there may be so many
+pub within_long : (input : List ℕ) (lines : ℕ) → lines ≤ length (lines_from (Some []) (take byte_limit input)).0 → lines ≤ line_limit → lines ≤ length (lines_within input)
+unfolding lines_within
+within_long input lines many few = fits_both lines _ _ line_limit (length-take line_limit (lines_from (Some []) (take byte_limit input)).0) many few
 
 -- an input past a limit, without a QUIT within the limits
 is_past : (input : List ℕ) → (nat_lt byte_limit (length input) || nat_lt line_limit (length (lines_of input))) ≡ true → has_quit (asked_in (lines_within input)) ≡ false → is_past_limit input ≡ true

@@ -21,7 +21,7 @@ use Rattle.request_loop.specs.Reading.{Rows, is_end, counted_lines, requests_fro
 use Rattle.request_loop.specs.Gathered.{AreGathered}
 use Rattle.request_loop.specs.Handed.{IsCleared}
 use Rattle.request_loop.specs.Heard.{CompletesNone, Completes, IsHeard, IsPassed, IsLineAnswer, IsUnwritten}
-use Rattle.request_loop.specs.Serving.{line_limit, is_quit_wish, has_quit, SoFar, HasQuit, IsKeptShort, IsOver, IsServedShort, ServedMore}
+use Rattle.request_loop.specs.Serving.{line_limit, is_quit_wish, has_quit, SoFar, HasQuit, IsKeptInside, IsOver, IsServedShort, ServedMore}
 use Rattle.request_loop.specs.declared.hear.Stop.{Stop}
 use Rattle.request_loop.specs.declared.hear.Stop.TheVariants as stop
 use Rattle.request_loop.proofs.Held.{written_all, one_quiet, none_held, one_held, printed}
@@ -123,6 +123,7 @@ module _ {S K : Type 0} (gives : S → Name → Request → Reply → S → Type
           printed = printed before (taken sink) (taken sink_then) page h.log h.held it.front;
           rest = inl it.same;
           told = λ why is. absurd (let no : ⊥ = cc in no);
+          heard = λ why is long. absurd (let no : ⊥ = cc in no);
           over = λ is. absurd (let no : ⊥ = cc in no);
         }
 
@@ -145,18 +146,26 @@ module _ {S K : Type 0} (gives : S → Name → Request → Reply → S → Type
       quits_there = sym (or_false (is_quit_wish request.wish)) ∙ sym (ap (λ s. has_quit s.0) done.all) ∙ quit_stepped h.kept (lines + 1, line)
 
       -- nothing more is answered
-      pub kept : (new : S) (page_then : List ℕ) (sink_then : K) (why : Why) → stops now user request why new → IsCleared taken sink sink_then page page_then request → IsKeptShort gives stops old new input page_then before (taken sink_then) why
-      kept new page_then sink_then why is_stopped cleared =
+      pub kept : (new : S) (page_then : List ℕ) (sink_then : K) (why : Why) → lines < line_limit → stops now user request why new → IsCleared taken sink sink_then page page_then request → IsKeptInside gives stops old new input (lines + 1) page_then before (taken sink_then) why
+      kept new page_then sink_then why few is_stopped cleared =
           record {
-            log = h.log;
-            request = request;
-            later = behind left_over left;
-            asked = asked;
-            last = now;
-            chain = h.chain;
-            stopped = subst (λ u. stops now u request why new) h.user_is is_stopped;
-            held = by_either cleared.either;
-            cleared = λ change is. (cleared.cleared change is).0;
+            short = record {
+              log = h.log;
+              request = request;
+              later = behind left_over left;
+              asked = asked;
+              last = now;
+              chain = h.chain;
+              stopped = subst (λ u. stops now u request why new) h.user_is is_stopped;
+              held = by_either cleared.either;
+              cleared = λ change is. (cleared.cleared change is).0;
+            };
+            read = h.read ++ line ∷ [];
+            left = left;
+            whole = one_line;
+            counted = one_read;
+            few = omega (arith, few);
+            all = λ more. (behind (λ kept. []) more, with_request (λ kept. []) more);
           }
         where
           by_either : ((page_then ≡ []) × (taken sink_then ≡ extended (taken sink) page)) ⊎ ((page_then ≡ page) × (taken sink_then ≡ taken sink)) → IsHeld before (taken sink_then) page_then h.log
@@ -236,6 +245,7 @@ module _ {S K : Type 0} (gives : S → Name → Request → Reply → S → Type
               printed = printed before (taken mid) (taken sink_then) (page_mid ++ reply_text reply) (h.log ++ exchange ∷ []) (held (taken mid) (page_mid ++ reply_text reply) [] (extended_nil (taken mid)) refl) front;
               rest = inl refl;
               told = λ why is. absurd (let no : ⊥ = cc in no);
+              heard = λ why is long. absurd (let no : ⊥ = cc in no);
               over = λ is. absurd (let no : ⊥ = cc in no);
             }
 
@@ -258,12 +268,12 @@ module _ {S K : Type 0} (gives : S → Name → Request → Reply → S → Type
         }
 
     -- the line came to no answer
-    pub stopped : (new : S) (then : Name) (rows_heard rows_then : Option Gathering) (lines_then requests_then : ℕ) (user_then : Name) (page_then : List ℕ) (sink_then : K) (found : Stop)
-        → IsHeard gives stops taken now new user then h.kept rows_heard (lines + 1, line) page page_then sink sink_then (Err found) → ServedMore gives stops old new input left lines_then requests_then user_then rows_then page_then before (taken sink_then) (Err found)
-    stopped new then rows_heard rows_then lines_then requests_then user_then page_then sink_then (stop.Sink fault) it = unwritten new sink_then it
-    stopped new then rows_heard rows_then lines_then requests_then user_then page_then sink_then (stop.Kept why) it = kept it.request it.completes new page_then sink_then why it.stopped it.cleared
-    stopped new then rows_heard rows_then lines_then requests_then user_then page_then sink_then stop.Limit it = absurd it
-    stopped new then rows_heard rows_then lines_then requests_then user_then page_then sink_then stop.Quit it = absurd it
+    pub stopped : (new : S) (then : Name) (rows_heard rows_then : Option Gathering) (requests_then : ℕ) (user_then : Name) (page_then : List ℕ) (sink_then : K) (found : Stop) → lines < line_limit
+        → IsHeard gives stops taken now new user then h.kept rows_heard (lines + 1, line) page page_then sink sink_then (Err found) → ServedMore gives stops old new input left (lines + 1) requests_then user_then rows_then page_then before (taken sink_then) (Err found)
+    stopped new then rows_heard rows_then requests_then user_then page_then sink_then (stop.Sink fault) few it = unwritten new sink_then it
+    stopped new then rows_heard rows_then requests_then user_then page_then sink_then (stop.Kept why) few it = kept it.request it.completes new page_then sink_then why few it.stopped it.cleared
+    stopped new then rows_heard rows_then requests_then user_then page_then sink_then stop.Limit few it = absurd it
+    stopped new then rows_heard rows_then requests_then user_then page_then sink_then stop.Quit few it = absurd it
 
 -- what came of a line, once it is known
 module _ {S K : Type 0} (gives : S → Name → Request → Reply → S → Type 0) (stops : S → Name → Request → Why → S → Type 0) (taken : K → Option (List ℕ)) (old new : S) (user then : Name) (kept : Option Rows) (rows_then : Option Gathering) (number : ℕ) (shown line : Option (List ℕ)) (same : shown ≡ line) (page page_then : List ℕ) (sink sink_then : K) where

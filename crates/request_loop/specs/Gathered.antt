@@ -5,6 +5,7 @@ use Rattle.std.specs.Result.{result_ok}
 use Rattle.plan_schema.specs.declared.key.Key.{Key}
 use Rattle.plan_schema.specs.declared.key.Record.{Record}
 use Rattle.plan_schema.specs.declared.change.Change.{Change}
+use Rattle.plan_schema.specs.declared.limits.TheConstants.{LINE_LIMIT}
 use Rattle.plan_schema.specs.Name.{is_name}
 use Rattle.plan_schema.specs.Sound.{are_sound_rows, is_sound_change}
 use Rattle.command_words.specs.declared.reply.Bad.{Bad}
@@ -35,7 +36,7 @@ pub record IsGathered (r : Rows) (g : Gathering) : Type 0 where
   pub sound : are_sound_rows g.rows ≡ true
   pub named : is_name r.scenario ≡ true
   pub some_line : 1 ≤ r.line
-  pub most_lines : r.line ≤ 1000000
+  pub most_lines : r.line ≤ LINE_LIMIT
   pub some_rows : 1 ≤ r.count
   pub most_rows : r.count ≤ 1000
 

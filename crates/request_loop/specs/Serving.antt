@@ -78,7 +78,7 @@ module _ {S : Type 0} (gives : S → Name → Request → Reply → S → Type 0
     pub written : (change : Change) → request.wish ≡ Makes change → after ≡ extended before (text_of log)
 
   -- a session that may have stopped before its end: the first requests were answered in a chain, and what follows of them was written;
-  -- where the input is too long, they are all whole ones within its limits
+  -- where the input is too long, they are all whole ones within its limits, or the one behind them that stopped it is one of these too
   pub record IsServedShort (old new : S) (input : List ℕ) (before after : Option (List ℕ)) (served : Served) : Type 0 where
     pub log : List Exchange
     pub later : List Request
@@ -88,6 +88,7 @@ module _ {S : Type 0} (gives : S → Name → Request → Reply → S → Type 0
     pub printed : IsPrinted before after log
     pub rest : (new ≡ last) ⊎ ((why : Why) × HasStopped last new log (requests_of input) before after why)
     pub told : (why : Why) → why_of served ≡ Some why → HasStopped last new log (requests_of input) before after why
+    pub heard : (why : Why) → why_of served ≡ Some why → is_past_limit input ≡ true → HasStopped last new log (heard_within input) before after why
     pub over : served ≡ ends.Limit → requests_in log ≡ heard_within input
 
   pub record Serves (old new : S) (input : List ℕ) (before after : Option (List ℕ)) (served : Served) : Type 0 where
@@ -158,13 +159,28 @@ module _ {S : Type 0} (gives : S → Name → Request → Reply → S → Type 0
     pub held : IsHeld before taken page log
     pub cleared : (change : Change) → request.wish ≡ Makes change → page ≡ []
 
+  -- it was handed on by the last of so many lines, so it is a whole one, whatever stands behind these
+  pub record IsKeptInside (old new : S) (input : List ℕ) (lines : ℕ) (page : List ℕ) (before taken : Option (List ℕ)) (why : Why) : Type 0 where
+    pub short : IsKeptShort old new input page before taken why
+    pub read : List (Option (List ℕ))
+    pub left : List (Option (List ℕ))
+    pub whole : lines_of input ≡ read ++ left
+    pub counted : length read ≡ lines
+    pub few : lines ≤ line_limit
+    pub all : (more : List (Option (List ℕ))) → (later : List Request) × (whole_requests (counted_lines 1 (read ++ more)) None ≡ requests_in short.log ++ short.request ∷ later)
+
+  -- it was handed on where all lines were read
+  pub record IsKeptLast (old new : S) (input page : List ℕ) (before taken : Option (List ℕ)) (why : Why) : Type 0 where
+    pub short : IsKeptShort old new input page before taken why
+    pub few : length (lines_of input) ≤ line_limit
+
   -- what some lines came to
   abbrev pub ServedMore : S → S → List ℕ → List (Option (List ℕ)) → ℕ → ℕ → Name → Option Gathering → List ℕ → Option (List ℕ) → Option (List ℕ) → Result (Unit {0}) Stop → Type 0
   ServedMore old new input left lines requests user rows page before taken (Ok done) = SoFar old new input left lines requests user rows page before taken
   ServedMore old new input left lines requests user rows page before taken (Err stop.Limit) = IsOver old new input page before taken
   ServedMore old new input left lines requests user rows page before taken (Err stop.Quit) = HasQuit old new input lines requests page before taken
   ServedMore old new input left lines requests user rows page before taken (Err (stop.Sink fault)) = IsServedShort old new input before taken ends.WriteFault
-  ServedMore old new input left lines requests user rows page before taken (Err (stop.Kept why)) = IsKeptShort old new input page before taken why
+  ServedMore old new input left lines requests user rows page before taken (Err (stop.Kept why)) = IsKeptInside old new input lines page before taken why
 
   -- all requests of the input were answered, so many, and the page holds the last replies
   pub record HasAnswered (old new : S) (input : List ℕ) (requests : ℕ) (page : List ℕ) (before taken : Option (List ℕ)) : Type 0 where
@@ -178,7 +194,10 @@ module _ {S : Type 0} (gives : S → Name → Request → Reply → S → Type 0
   -- what the lines up to the end came to
   abbrev pub ServedLast : S → S → List ℕ → ℕ → ℕ → Name → List ℕ → Option (List ℕ) → Option (List ℕ) → Result (Unit {0}) Stop → Type 0
   ServedLast old new input lines requests user page before taken (Ok done) = HasAnswered old new input requests page before taken
-  ServedLast old new input lines requests user page before taken (Err found) = ServedMore old new input [] lines requests user None page before taken (Err found)
+  ServedLast old new input lines requests user page before taken (Err stop.Limit) = IsOver old new input page before taken
+  ServedLast old new input lines requests user page before taken (Err stop.Quit) = HasQuit old new input lines requests page before taken
+  ServedLast old new input lines requests user page before taken (Err (stop.Sink fault)) = IsServedShort old new input before taken ends.WriteFault
+  ServedLast old new input lines requests user page before taken (Err (stop.Kept why)) = IsKeptLast old new input page before taken why
 
   -- some bytes of an input were read, and whatever follows them, so many lines of it were served
   pub record Going (old now : S) (lines requests : ℕ) (user : Name) (rows : Option Gathering) (kept : Option (List ℕ)) (page : List ℕ) (room : ℕ) (left_before left before taken : Option (List ℕ)) : Type 0 where

@@ -1,5 +1,6 @@
 //! The rows of a LOAD, as they are read.
 ghost use Rattle.std.specs.Prelude.{◌≡◌, ◌≤◌, ◌<◌, ◌+◌, true, length, Ok, Err, IfOk, IfSome, option_map};
+ghost use Rattle.plan_schema.specs.declared.limits.TheConstants.{LINE_LIMIT};
 ghost use Rattle.plan_schema.specs.Name.{is_name};
 ghost use Rattle.plan_schema.specs.Sound.{is_sound_row};
 ghost use Rattle.session_rules.specs.Requests as requests;
@@ -44,7 +45,7 @@ impl Gathering {
     /// Before the first row.
     pub(crate) fn begin(alloc: Global, line: u64, scenario: &Name, count: u32) -> Gathering
         requires some_line { 1 ≤ line }
-        requires most_lines { line ≤ 1000000 }
+        requires most_lines { line ≤ LINE_LIMIT }
         requires some_rows { 1 ≤ count }
         requires most_rows { count ≤ 1000 }
         ensures { IsGathered (begun_rows line scenario.now count) result }

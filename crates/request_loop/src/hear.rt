@@ -2,6 +2,7 @@
 ghost use Rattle.std.specs.Prelude.{◌≡◌, ◌≤◌, ◌<◌, ℕ, Option, true, false, length, None, Some, Ok, Err};
 ghost use Rattle.std.specs.Prelude.{IfSome, IfOk, IfErr, OnOk, option_map};
 ghost use Rattle.command_words.specs.Spelling.{is_sound_command};
+ghost use Rattle.plan_schema.specs.declared.limits.TheConstants.{LINE_LIMIT};
 ghost use Rattle.plan_schema.specs.Sound.{is_sound_change};
 ghost use Rattle.session_rules.specs.Requests as requests;
 ghost use Rattle.session_rules.specs.Requests.{Wish};
@@ -15,9 +16,8 @@ ghost use Rattle.request_loop.specs.Heard.{IsTaken, IsHeard, IsFaultHeard};
 
 use crate::answers::{Answers, Why};
 use crate::gathering::{Gathered, Gathering};
-use crate::request::read_request;
 use byte_lines::{Sink, SinkFault};
-use command_words::{Bad, Command, Page, Reply, flush, is_blank};
+use command_words::{Bad, Command, Page, Reply, flush, is_blank, read_line};
 use plan_schema::{Change, Name};
 use std::alloc::Global;
 
@@ -69,7 +69,7 @@ pub(crate) fn hear<A: Answers, K: Sink>(
 ) -> Result<Option<Answer>, Stop>
     requires ready { A.ready answers.now state.old }
     requires number { 1 ≤ number }
-    requires most_lines { number ≤ 1000000 }
+    requires most_lines { number ≤ LINE_LIMIT }
     requires short { IfSome (option_map (λ text. text.now) line) (λ text. length text ≤ 1024) }
     requires begun { AreBegun rows.old }
     ensures begun { AreBegun rows.new }
@@ -152,7 +152,7 @@ fn load_handed_on<A: Answers, K: Sink>(
 ) -> Result<Reply, Stop>
     requires ready { A.ready answers.now state.old }
     requires line { 1 ≤ line }
-    requires most_lines { line ≤ 1000000 }
+    requires most_lines { line ≤ LINE_LIMIT }
     requires comes { (wish : Wish) × ComesTo wish gathered }
     ensures ready { A.ready answers.now state.new }
     ensures cause { WriteCauses K.faults K.label sink.old sink.new result }
@@ -212,7 +212,7 @@ fn hear_request<A: Answers, K: Sink>(
 ) -> Result<Option<Answer>, Stop>
     requires ready { A.ready answers.now state.old }
     requires number { 1 ≤ number }
-    requires most_lines { number ≤ 1000000 }
+    requires most_lines { number ≤ LINE_LIMIT }
     requires short { IfSome (option_map (λ text. text.now) line) (λ text. length text ≤ 1024) }
     requires none { rows.old ≡ None }
     ensures begun { AreBegun rows.new }
@@ -231,6 +231,7 @@ fn hear_request<A: Answers, K: Sink>(
 }
 
 /// Hears a line that isn't too long and begins a request.
+#[tactic(auto, unfolding(session_rules::specs::Requests::reading))]
 fn hear_command<A: Answers, K: Sink>(
     alloc: Global,
     answers: &A,
@@ -244,7 +245,7 @@ fn hear_command<A: Answers, K: Sink>(
 ) -> Result<Option<Answer>, Stop>
     requires ready { A.ready answers.now state.old }
     requires number { 1 ≤ number }
-    requires most_lines { number ≤ 1000000 }
+    requires most_lines { number ≤ LINE_LIMIT }
     requires short { length text.now ≤ 1024 }
     requires none { rows.old ≡ None }
     ensures begun { AreBegun rows.new }
@@ -255,15 +256,16 @@ fn hear_command<A: Answers, K: Sink>(
         user.new
         None rows.new (number, Some text.now) page.old.items page.new.items sink.old sink.new result }
 {
-    let command = match read_request(text) {
+    let read = read_line(text);
+    let command = match &read {
         Ok(command) => command,
-        Err(bad) => return hear_fault(answers, state, number, user, bad),
+        Err(bad) => return hear_fault(answers, state, number, user, *bad),
     };
-    if let Command::Load { scenario, count } = &command {
+    if let Command::Load { scenario, count } = command {
         *rows = Some(Gathering::begin(alloc, number, scenario, *count));
         return Ok(None);
     }
-    match answer_command(answers, state, number, user, &command, page, sink) {
+    match answer_command(answers, state, number, user, command, page, sink) {
         Ok(answer) => Ok(Some(answer)),
         Err(stop) => Err(stop),
     }
@@ -300,7 +302,7 @@ fn answer_command<A: Answers, K: Sink>(
 ) -> Result<Answer, Stop>
     requires ready { A.ready answers.now state.old }
     requires line { 1 ≤ line }
-    requires most_lines { line ≤ 1000000 }
+    requires most_lines { line ≤ LINE_LIMIT }
     requires sound { is_sound_command command.now ≡ true }
     ensures ready { A.ready answers.now state.new }
     ensures cause { WriteCauses K.faults K.label sink.old sink.new result }
@@ -339,7 +341,7 @@ fn handed_on<A: Answers, K: Sink>(
 ) -> Result<Reply, Stop>
     requires ready { A.ready answers.now state.old }
     requires line { 1 ≤ line }
-    requires most_lines { line ≤ 1000000 }
+    requires most_lines { line ≤ LINE_LIMIT }
     requires sound { is_sound_command command.now ≡ true }
     ensures ready { A.ready answers.now state.new }
     ensures cause { WriteCauses K.faults K.label sink.old sink.new result }
@@ -369,7 +371,7 @@ fn change_handed_on<A: Answers, K: Sink>(
 ) -> Result<Reply, Stop>
     requires ready { A.ready answers.now state.old }
     requires line { 1 ≤ line }
-    requires most_lines { line ≤ 1000000 }
+    requires most_lines { line ≤ LINE_LIMIT }
     requires sound { is_sound_change change ≡ true }
     ensures ready { A.ready answers.now state.new }
     ensures cause { WriteCauses K.faults K.label sink.old sink.new result }

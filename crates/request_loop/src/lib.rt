@@ -5,7 +5,6 @@ mod answers;
 mod gathering;
 mod hear;
 mod laws;
-mod request;
 mod serve;
 
 pub use answers::{Answers, Why};

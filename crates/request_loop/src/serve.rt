@@ -7,6 +7,7 @@ ghost use Rattle.byte_lines.specs.Cuts.{shown};
 ghost use Rattle.byte_lines.specs.Lines.{line_of, lines_from, lines_after, no_bytes};
 ghost use Rattle.plan_schema.specs.Outside.{Rose};
 ghost use Rattle.plan_schema.specs.declared.outside.SinkFault.TheVariants as sinks;
+ghost use Rattle.request_loop.specs.declared.answers.Why.{Why};
 ghost use Rattle.request_loop.specs.declared.hear.Stop.TheVariants as stop;
 ghost use Rattle.request_loop.specs.Gathered.{AreBegun};
 ghost use Rattle.request_loop.specs.Serving.{ServedMore, ServedLast, SoFar, HasServed, sink_end};
@@ -186,6 +187,8 @@ fn serve_last<A: Answers, K: Sink>(
     requires ready { A.ready answers.now state.old }
     requires rows { AreBegun progress.old.rows }
     ensures quit { result ≡ Err stop.Quit → progress.new.lines ≡ progress.old.lines + 1 }
+    ensures stopped { (why : Why) → result ≡ Err (stop.Kept why)
+        → progress.new.lines ≡ progress.old.lines + 1 }
     ensures full { result ≡ Err stop.Limit → LINE_LIMIT ≤ progress.old.lines }
     ensures rows { AreBegun progress.new.rows }
     ensures ready { A.ready answers.now state.new }
@@ -287,6 +290,8 @@ fn serve_line<A: Answers, K: Sink>(
     ensures counted { OnOk result (progress.new.lines ≡ progress.old.lines + 1) }
     ensures most { progress.new.lines ≤ progress.old.lines + 1 }
     ensures quit { result ≡ Err stop.Quit → progress.new.lines ≡ progress.old.lines + 1 }
+    ensures stopped { (why : Why) → result ≡ Err (stop.Kept why)
+        → progress.new.lines ≡ progress.old.lines + 1 }
     ensures full { result ≡ Err stop.Limit → LINE_LIMIT ≤ progress.old.lines }
     ensures rows { AreBegun progress.new.rows }
     ensures ready { A.ready answers.now state.new }

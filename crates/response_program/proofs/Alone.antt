@@ -1,6 +1,6 @@
 -- Sessions one after the other, as rounds of one.
-use Rattle.std.proofs.Common.{◌≡◌, ◌∙◌, ℕ, suc, pred, List, [], ◌∷◌, length, map, true, false, ◌==◌, ◌&&◌, refl, sym, ap, subst, arith}
-use Rattle.std.specs.List.{AllByRecursion, list_all}
+use Rattle.std.proofs.Common.{◌≡◌, ◌∙◌, ℕ, suc, pred, List, [], ◌∷◌, length, map, true, false, ◌==◌, refl, sym, ap, subst, arith}
+use Rattle.std.specs.List.{AllByRecursion}
 use Rattle.std.proofs.lemmas.Bool.{and_parts}
 use Rattle.std.proofs.lemmas.Bool.Decides.{nat_tests}
 use Rattle.std.proofs.lemmas.List.{length-map}

@@ -1,14 +1,17 @@
 -- What the words ask for.
-use Rattle.std.proofs.Common.{◌≡◌, ◌∙◌, ℕ, List, Bool, true, false, Option, Some, None, map, ap, sym, if◌then◌else◌}
+use Rattle.std.proofs.Common.{◌≡◌, ◌∙◌, ℕ, List, Option, Some, ap, sym, true}
 use Rattle.program_words.specs.declared.program.Program.{Program}
 use Rattle.program_words.specs.declared.program.Program.TheVariants as program
 use Rattle.program_words.specs.declared.program.Still.TheVariants as still
 use Rattle.program_words.specs.declared.program.RunWords.{RunWords}
 use Rattle.program_words.specs.Words.{program_of}
+use Rattle.program_words.specs.Words.{is_replay}
 use Rattle.program_words.proofs.Told.{IsTold, told, IsMakeTold, told_make}
+use Rattle.program_words.proofs.ToldStill.{told_still}
 use Rattle.response_program.specs.declared.asked.Asked.{Asked}
 use Rattle.response_program.specs.declared.asked.Asked.TheVariants as asked
 use Rattle.response_program.specs.declared.making.Making.{Making}
+use Rattle.response_program.specs.declared.replay.Replaying.{Replaying}
 use Rattle.response_program.specs.Words.{served_by, served}
 
 is_run : (words : Program) (run : RunWords) → Some (asked.Run run) ≡ served_by words → words ≡ program.Run run
@@ -34,12 +37,33 @@ is_make (program.Still (still.Make parts start base input)) making h = ap make_p
     same_making made other h = cc
 is_make (program.Still (still.Trial parts start)) making h = cc
 
--- what the words tell of a run that is served, and of a making
+-- the program of a replay
+abbrev pub replay_program : Replaying → Program
+replay_program replaying = program.Still (still.Replay replaying.base replaying.journal replaying.input replaying.output)
+
+is_replaying : (words : Program) (replaying : Replaying) → Some (asked.Replay replaying) ≡ served_by words → words ≡ replay_program replaying
+is_replaying (program.Run other) replaying h = cc
+is_replaying (program.Keep other) replaying h = cc
+is_replaying (program.Still (still.Audit base journal rounds)) replaying h = cc
+is_replaying (program.Still (still.Replay base journal input output)) replaying h =
+    ap replay_program (same_replaying (record { base = base; journal = journal; input = input; output = output }) replaying (sym h))
+  where
+    same_replaying : (made other : Replaying) → Some (asked.Replay made) ≡ Some (asked.Replay other) → made ≡ other
+    same_replaying made other h = cc
+is_replaying (program.Still (still.Make parts start base input)) replaying h = cc
+is_replaying (program.Still (still.Trial parts start)) replaying h = cc
+
+-- what the words tell of a run that is served, of a making, and of a replay
 pub asked_told : (words : List (List ℕ)) (found : Program) (run : RunWords) → program_of words ≡ Some found → Some (asked.Run run) ≡ served_by found → IsTold run
 asked_told words found run is by = told words run (is ∙ ap Some (is_run found run by))
 
 pub asked_make : (words : List (List ℕ)) (found : Program) (making : Making) → program_of words ≡ Some found → Some (asked.Make making) ≡ served_by found → IsMakeTold making.parts making.base making.input
 asked_make words found making is by = told_make words making.parts making.start making.base making.input (is ∙ ap Some (is_make found making by))
+
+pub asked_replay : (words : List (List ℕ)) (found : Program) (replaying : Replaying) → program_of words ≡ Some found → Some (asked.Replay replaying) ≡ served_by found
+    → is_replay replaying.base replaying.journal replaying.input replaying.output ≡ true
+asked_replay words found replaying is by =
+    told_still words (still.Replay replaying.base replaying.journal replaying.input replaying.output) (is ∙ ap Some (is_replaying found replaying by))
 
 -- what is served of words is what they ask for
 pub asked_is : (all : Option Program) (found : Program) (what other : Option Asked) → all ≡ Some found → what ≡ served_by found → served all ≡ other → what ≡ other

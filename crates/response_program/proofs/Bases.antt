@@ -1,5 +1,5 @@
 -- A run over a base that was read.
-use Rattle.std.proofs.Common.{◌≡◌, ℕ, List, [], Some, Ok, refl, sym, ap, subst, ◌∙◌, inl, inr}
+use Rattle.std.proofs.Common.{◌≡◌, ℕ, List, Some, Ok, refl, sym, ap, subst, ◌∙◌, inl, inr}
 use Rattle.std.specs.Prelude.{IsSome}
 use Rattle.plan_schema.specs.declared.change.Entry.{Entry}
 use Rattle.plan_schema.specs.Contents.{Contents}
@@ -12,7 +12,7 @@ use Rattle.response_program.specs.Names.{Names, Differ}
 use Rattle.response_program.specs.Views.{View, NoneFell}
 use Rattle.response_program.specs.Outcomes.{Outcome, Done, NoMemory, Refused, NotOpened, TooLong, HasCause}
 use Rattle.response_program.specs.Runs.{Tells, IsOfBase, IsCut, ReadsTo, HasNoBook, HasRunOver, HasRunBook, HasRun}
-use Rattle.response_program.proofs.Chains.{both_fell, cause_after}
+use Rattle.response_program.proofs.Chains.{same_fell, both_fell, cause_after}
 use Rattle.response_program.proofs.Headline.{done_over, cut_all_over, long_over}
 use Rattle.response_program.proofs.Whole.{bytes_in}
 
@@ -43,14 +43,14 @@ module _ (old late new : View) (names : Names) (differ : Differ names) (contents
               totals_are = over.totals totals is;
               run = record {
                 journal_is = run.journal_is;
-                sessions = done_over names.journal old late new new (λ name apart. holds name) (λ name apart. refl) names contents entries differ.no_journal run.sessions;
+                sessions = done_over names.journal old late new new (λ name apart. holds name) (λ name apart. refl) before (same_fell new) names contents entries differ.no_journal run.sessions;
               };
             });
         limit = λ session is tells.
             record {
               contents = contents;
               base_is = reads_to tells;
-              input = long_over names.journal old late new new (λ name apart. holds name) (λ name apart. refl) names session differ.no_journal (over.limit session is (tells_late tells));
+              input = long_over names.journal old late new new (λ name apart. holds name) (λ name apart. refl) before (same_fell new) names session differ.no_journal (over.limit session is (tells_late tells));
             };
         cut = λ cut tells never.
             (let run = over.cut cut (tells_late tells) (λ rose. never (rose_after (old.writes names.journal) (late.writes names.journal) (new.writes names.journal) (before.writes names.journal) rose)) in
@@ -61,7 +61,7 @@ module _ (old late new : View) (names : Names) (differ : Differ names) (contents
               run = record {
                 legal = run.legal;
                 journal_is = run.journal_is;
-                outputs = cut_all_over names.journal old late new new (λ name apart. holds name) (λ name apart. refl) names contents entries differ.no_journal run.outputs;
+                outputs = cut_all_over names.journal old late new new (λ name apart. holds name) (λ name apart. refl) before (same_fell new) names contents entries differ.no_journal run.outputs;
               };
             });
       }

@@ -1,24 +1,24 @@
--- What desks that were served in rounds are, by what the shelf holds before and after them.
-use Rattle.std.proofs.Common.{◌≡◌, ◌∙◌, ℕ, suc, ◌+◌, List, [], ◌∷◌, Option, Some, None, true, false, refl, sym, subst, ap, arith}
-use Rattle.std.specs.Prelude.{IsSome, take, slice_get, map}
+-- What desks that were served are, one after the other or in rounds, by what the shelf holds before and after them.
+use Rattle.std.proofs.Common.{◌≡◌, ◌∙◌, ℕ, suc, ◌+◌, List, [], ◌∷◌, Option, Some, refl, sym, subst, arith}
+use Rattle.std.specs.Prelude.{IsSome}
 use Rattle.std.specs.List.{AllByRecursion}
-use Rattle.plan_schema.specs.Outside.{Rose}
+use Rattle.plan_schema.specs.declared.change.Entry.{Entry}
+use Rattle.plan_schema.specs.Contents.{Contents}
 use Rattle.byte_lines.specs.declared.rounds.Served.{Served}
 use Rattle.byte_lines.specs.declared.rounds.Served.TheVariants as ends
-use Rattle.request_loop.specs.Serving.{is_past_limit}
 use Rattle.response_program.specs.Names.{Pair}
 use Rattle.response_program.specs.Views.{View}
-use Rattle.response_program.specs.Outcomes.{Outcome, NoMemory, NotRead, NotWritten, TooLong, stop_of}
+use Rattle.response_program.specs.Outcomes.{Outcome, NotRead, NotWritten, TooLong, stop_of}
 use Rattle.response_program.specs.Desks as desks
-use Rattle.response_program.specs.Desks.{DeskView, Opens}
+use Rattle.response_program.specs.Desks.{DeskView, Opens, HasServed, AreServed}
 use Rattle.response_program.specs.Runs.{Tells, AreHeld}
 use Rattle.response_program.specs.InRounds as rounds
 use Rattle.response_program.specs.InRounds.{AreNamed, IsCome, KeepNames, AreCome, IsTellingDesk, DesksHold}
-use Rattle.response_program.proofs.Opened.{IsFresh, AreFresh}
+use Rattle.response_program.proofs.Opened.{AreFresh}
 use Rattle.response_program.proofs.Closed.{AreHeldBy}
 use Rattle.response_program.proofs.Served as faults
 use Rattle.response_program.proofs.Served.{IsFaulty, some_is, rose_fresh}
-use Rattle.response_program.proofs.Whole.{IsWithin, IsLongAt, limit_is, bytes_in}
+use Rattle.response_program.proofs.Whole.{IsLongAt, limit_is, bytes_in}
 
 pub opens_named : (old new : View) (pairs : List Pair) (ds : List DeskView) → Opens old pairs ds new → AreNamed pairs ds
 opens_named _ _ _ _ (desks.none shelf) = tt
@@ -38,6 +38,29 @@ come_named _ _ _ _ (rounds.ended session count old new olds news stop come rest)
 come_named _ _ _ _ (rounds.ended session count old new olds news stop come rest) [] named = absurd named
 come_named _ _ _ _ (rounds.stopped session old new olds news served outcome come stops keep) (pair ∷ pairs) named = (come.pair_is ∙ named.0, keep_named olds news keep pairs named.1)
 come_named _ _ _ _ (rounds.stopped session old new olds news served outcome come stops keep) [] named = absurd named
+come_named _ _ _ _ (rounds.no_memory session olds news keep) pairs named = keep_named olds news keep pairs named
+
+kept_same : (ds : List DeskView) → KeepNames ds ds
+kept_same [] = tt
+kept_same (desk ∷ ds) = (refl, kept_same ds)
+
+one_come : (contents : Contents) (session : ℕ) (earlier entries : List Entry) (old new : DeskView) (served : Served) → HasServed contents session earlier entries old new served → IsCome old new served
+one_come contents session earlier entries old new served h =
+    record {
+      pair_is = h.pair_is;
+      read = h.read;
+      written = h.written;
+      limit = λ is input told. (h.serves input told).limit is;
+      within = λ count is input told. ((h.serves input told).whole count is).within;
+    }
+
+-- desks that were served one after the other come to the same
+pub served_come : (contents : Contents) (session : ℕ) (earlier entries : List Entry) (olds news : List DeskView) (stop : Option Outcome) → AreServed contents session earlier olds news entries stop → AreCome session olds news stop
+served_come contents _ _ _ _ _ _ (desks.none session entries) = rounds.none session
+served_come contents _ _ _ _ _ _ (desks.ended session count earlier between entries old new olds news stop served rest) =
+    rounds.ended session count old new olds news stop (one_come contents session earlier between old new (ends.Ended count) served) (served_come contents (session + 1) between entries olds news stop rest)
+served_come contents _ _ _ _ _ _ (desks.stopped session earlier entries old new olds served outcome had stops) =
+    rounds.stopped session old new olds olds served outcome (one_come contents session earlier entries old new served had) stops (kept_same olds)
 
 -- why they stopped -------------------------------------------------------------------------------------------------------------
 
@@ -64,6 +87,7 @@ come_faulty shelf _ _ _ _ (rounds.ended session count old new olds news stop com
 come_faulty shelf _ _ _ _ (rounds.stopped session old new olds news served outcome come stops keep) (pair ∷ pairs) fresh told is =
     subst (IsFaulty (new ∷ news)) (some_is is) (stopped_faulty session old new news served outcome come stops fresh.0.no_reads fresh.0.no_writes)
 come_faulty shelf _ _ _ _ (rounds.stopped session old new olds news served outcome come stops keep) [] fresh told is = absurd fresh
+come_faulty shelf _ _ _ _ (rounds.no_memory session olds news keep) pairs fresh told is = subst (IsFaulty news) (some_is is) (faults.memory news)
 
 -- which input is too long ------------------------------------------------------------------------------------------------------
 
@@ -100,6 +124,7 @@ come_long old tells _ _ _ _ (rounds.stopped session desk then olds news served o
       },
     )
 come_long old tells _ _ _ _ (rounds.stopped session desk then olds news served outcome come stops keep) [] fresh number is = absurd fresh
+come_long old tells _ _ _ _ (rounds.no_memory session olds news keep) pairs fresh number is = cc
 
 -- what is held -----------------------------------------------------------------------------------------------------------------
 

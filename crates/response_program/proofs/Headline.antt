@@ -10,11 +10,12 @@ use Rattle.request_loop.specs.Serving.{is_past_limit}
 use Rattle.sessions.specs.Serving.{IsServed, IsServedShort}
 use Rattle.response_program.specs.declared.ending.Totals.{Totals}
 use Rattle.response_program.specs.Names.{Pair, Names, IsApart}
-use Rattle.response_program.specs.Views.{View}
+use Rattle.response_program.specs.Views.{View, NoneFell}
 use Rattle.response_program.specs.Desks.{session_of}
 use Rattle.response_program.specs.Runs as runs
 use Rattle.response_program.specs.Runs.{Tells, AreHeld, AreCut, AreDoneOver, AreCutOver, IsTooLongIn, ReadsTo, IsDone, IsShort, IsTooLong}
 use Rattle.response_program.proofs.Named.{all_kept, some_kept}
+use Rattle.response_program.proofs.Unhurt.{whole_longer}
 
 -- no entries are a legal history
 pub no_entries : (base : Contents) → IsLegal base []
@@ -25,7 +26,7 @@ pub made_tells : (name : List ℕ) (old new : View) → Tells old → IsKeptOrEm
 made_tells name old new tells here others other = some_kept (tells other) (all_kept name old.held new.held here others other)
 
 -- a file of this name is made before, and given back behind
-module _ (name : List ℕ) (old mid late new : View) (before : StaysBut name old.held mid.held) (after : StaysBut name late.held new.held) where
+module _ (name : List ℕ) (old mid late new : View) (before : StaysBut name old.held mid.held) (after : StaysBut name late.held new.held) (making : NoneFell old mid) (giving : NoneFell late new) where
   pub held_over : (pairs : List Pair) (inputs outputs : List (List ℕ)) → AllByRecursion (IsApart name) pairs → AreHeld mid late pairs inputs outputs → AreHeld old new pairs inputs outputs
   held_over [] [] [] apart h = tt
   held_over (pair ∷ pairs) (input ∷ inputs) (output ∷ outputs) apart h =
@@ -58,7 +59,9 @@ module _ (name : List ℕ) (old mid late new : View) (before : StaysBut name old
   cut_all_over names contents entries apart h =
       record {
         in_order = λ each. cut_over contents 1 [] entries names.pairs apart (h.in_order each);
-        in_rounds = λ other. (let cut = h.in_rounds other in record { rounds = cut.rounds; shape = cut.shape; held = held_over names.pairs _ _ apart cut.held; cut = cut.cut });
+        in_rounds = λ other.
+            (let cut = h.in_rounds other in
+            record { rounds = cut.rounds; shape = cut.shape; held = held_over names.pairs _ _ apart cut.held; cut = cut.cut; whole = whole_longer old mid late new making giving names.pairs cut.rounds cut.whole });
       }
 
   -- the pair at a place is one of the pairs

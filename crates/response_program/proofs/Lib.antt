@@ -14,6 +14,7 @@ pub mod Filled
 pub mod Filling
 pub mod Seated
 pub mod Endings
+pub mod Unhurt
 pub mod Headline
 pub mod Bases
 pub mod Wholes
@@ -24,3 +25,5 @@ pub mod Done
 pub mod Memory
 pub mod Unmade
 pub mod Makings
+pub mod Shown
+pub mod Replays

@@ -1,14 +1,15 @@
 -- The names of a run's files, and of those that are made, differ from each other and from the console's.
-use Rattle.std.proofs.Common.{◌≡◌, ◌≢◌, ℕ, List, [], ◌∷◌, Bool, true, false, not, ◌&&◌, bytes_eq, codes, refl, sym, ap, ◌∙◌, inl, inr}
+use Rattle.std.proofs.Common.{◌≡◌, ◌≢◌, ℕ, List, [], ◌∷◌, Bool, true, not, ◌&&◌, bytes_eq, codes, sym, ap, ◌∙◌, inl, inr}
 use Rattle.std.specs.List.{AllByRecursion, list_all, list_any}
 use Rattle.std.specs.Cmp.Lexicographic.{bytes_decides}
 use Rattle.std.proofs.lemmas.Bool.{and_parts, cases_Bool}
 use Rattle.program_words.specs.declared.program.RunWords.{RunWords}
 use Rattle.program_words.specs.Names.{is_file, has_files, are_files, is_input, is_output, is_apart, do_outputs_differ, do_differ}
-use Rattle.program_words.specs.Words.{is_make}
+use Rattle.program_words.specs.Words.{is_make, is_replay}
 use Rattle.program_words.proofs.Told.{IsTold}
 use Rattle.response_program.specs.Names.{Pair, console, IsApart, IsNoInput, AreOutputsApart, Differ, names_of}
 use Rattle.response_program.specs.Making.{AreApart}
+use Rattle.response_program.specs.Replayed.{AreOfReplay, replay_names}
 use Rattle.response_program.proofs.Named.{each}
 
 apart : (a b : List ℕ) → not (bytes_eq a b) ≡ true → a ≢ b
@@ -72,3 +73,22 @@ make_apart base input h =
     let all = and_parts (is_file base && is_file input) (not (bytes_eq base input)) h in
     let files = and_parts (is_file base) (is_file input) all.0 in
     record { base_input = apart base input all.1; base_console = no_console base files.0; input_console = no_console input files.1 }
+
+pub replay_apart : (base journal input output : List ℕ) → is_replay base journal input output ≡ true → AreOfReplay (replay_names base journal input output)
+replay_apart base journal input output h =
+    let three : Bool = not (bytes_eq output base) && not (bytes_eq output journal) && not (bytes_eq output input) in
+    let all = and_parts (is_file base && is_file journal && is_file input && is_file output) three h in
+    let files = and_parts (is_file base && is_file journal && is_file input) (is_file output) all.0 in
+    let read = and_parts (is_file base && is_file journal) (is_file input) files.0 in
+    let two = and_parts (is_file base) (is_file journal) read.0 in
+    let differ = and_parts (not (bytes_eq output base) && not (bytes_eq output journal)) (not (bytes_eq output input)) all.1 in
+    let both = and_parts (not (bytes_eq output base)) (not (bytes_eq output journal)) differ.0 in
+    record {
+      output_base = apart output base both.0;
+      output_journal = apart output journal both.1;
+      output_input = apart output input differ.1;
+      base_console = no_console base two.0;
+      journal_console = no_console journal two.1;
+      input_console = no_console input read.1;
+      output_console = no_console output files.1;
+    }

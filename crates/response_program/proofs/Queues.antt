@@ -2,7 +2,7 @@
 use Rattle.std.proofs.Common.{◌≡◌, ◌+◌, ◌≤◌, List, [], ◌∷◌, ◌++◌, drop, length, Option, Some, None, Result, Ok, Err, refl, sym, subst, ap, ◌∙◌, arith}
 use Rattle.std.specs.Prelude.{OnOk, OnErr, IfOk, IfErr, map}
 use Rattle.std.specs.Option.{option_to_list}
-use Rattle.std.proofs.lemmas.List.{length-append, length-map}
+use Rattle.std.proofs.lemmas.List.{length-map}
 use Rattle.program_words.specs.declared.rounds.PlacedPair.{PlacedPair}
 use Rattle.program_words.specs.Rounds.{Pair, pair_of, rounds_in, all_pairs}
 use Rattle.program_words.proofs.AllPairs.{pairs_of_rounds}
@@ -66,10 +66,7 @@ opens_length : (old new : View) (pairs : List Pair) (ds : List DeskView) → Ope
 opens_length _ _ _ _ (desks.none shelf) = refl
 opens_length _ _ _ _ (desks.more old between new pair desk pairs ds h rest) = (let more = opens_length between new pairs ds rest in omega (arith, more))
 
-pub few_desks : (old new : View) (pairs : List PlacedPair) (ds before after : List DeskView) → Opens old (map pair_of pairs) ds new → after ≡ before ++ ds → before ≡ []
-    → length pairs ≤ 16 → 1 + length after ≤ 17
-few_desks old new pairs ds before after opens is none few =
-    let sum = ap length is ∙ length-append before ds in
-    let zero_before = ap length none in
+pub few_desks : (old new : View) (pairs : List PlacedPair) (ds : List DeskView) → Opens old (map pair_of pairs) ds new → length pairs ≤ 16 → 1 + length ds ≤ 17
+few_desks old new pairs ds opens few =
     let as_many = opens_length old new (map pair_of pairs) ds opens ∙ length-map pairs pair_of in
-    omega (arith, few, sum, zero_before, as_many)
+    omega (arith, few, as_many)

@@ -1,12 +1,10 @@
 -- Desks of rounds with the names of their files, and what their rounds were run to.
 use Rattle.std.proofs.Common.{◌≡◌, ◌∙◌, ℕ, suc, ◌+◌, ◌≤◌, List, [], ◌∷◌, ◌++◌, length, map, Option, Some, None, ◌⊎◌, Bool, true, false, ◌&&◌, refl, sym, ap, subst, inl, inr, arith}
-use Rattle.std.specs.Prelude.{IsSome, option_map, MatchBool}
+use Rattle.std.specs.Prelude.{◌≢◌, MatchBool, take, drop}
 use Rattle.std.specs.Option.{option_or}
-use Rattle.std.specs.List.{AllByRecursion, list_all}
+use Rattle.std.specs.List.{AllByRecursion}
 use Rattle.std.proofs.lemmas.Bool.{and_parts}
 use Rattle.std.proofs.lemmas.List.{length-map}
-use Rattle.plan_schema.specs.Contents.{Contents}
-use Rattle.plan_schema.specs.declared.change.Entry.{Entry}
 use Rattle.byte_lines.specs.declared.rounds.Desk.{Desk}
 use Rattle.byte_lines.specs.declared.rounds.Served.{Served}
 use Rattle.byte_lines.specs.declared.rounds.Served.TheVariants as ends
@@ -20,18 +18,44 @@ use Rattle.plan_core.specs.State.{State}
 use Rattle.plan_book.specs.declared.ground.Ground.{Ground}
 use Rattle.plan_book.specs.Books.{Story, history, story_of, entries_in}
 use Rattle.plan_book.proofs.Told.{entries_back}
-use Rattle.desk_rounds.specs.RoundsRun.{ended_as, all_ended}
+use Rattle.desk_rounds.specs.Three.{EachThree}
+use Rattle.desk_rounds.specs.RoundsRun.{ended_as, is_wanting, all_ended}
 use Rattle.desk_rounds.specs.RunOver.{IsDeskOf, AreDesksOf, AreRunOver}
-use Rattle.desk_rounds.specs.Told.{IsTelling, Hold, AreCutRounds}
+use Rattle.desk_rounds.specs.Told.{Spoken, IsWholly, IsTelling, Hold, IsUnhurt, AreWholeUnhurt, AreCutRounds}
 use Rattle.response_program.specs.Names.{Pair}
-use Rattle.response_program.specs.Outcomes.{Outcome, NoMemory, NotRead, NotWritten, TooLong, stop_of, stop_by, first_stop}
+use Rattle.response_program.specs.Outcomes.{Outcome, NoMemory, NotRead, NotWritten, TooLong, stop_of, stop_by, stop_in_rounds}
 use Rattle.response_program.specs.Desks.{DeskView}
 use Rattle.response_program.specs.InRounds as rounds
-use Rattle.response_program.specs.InRounds.{desk_at, desks_at, AreLabelled, IsCome, KeepNames, AreCome, IsTellingDesk, DesksHold, filled, AreFilled, AreServedAt, AreServedInRounds}
+use Rattle.response_program.specs.InRounds.{desk_at, desks_at, AreLabelled, IsCome, KeepNames, AreCome, IsTellingDesk, DesksHold, IsUnhurtDesk, AreWholeDesks, filled, AreFilled, AreServedAt, AreServedInRounds}
 use Rattle.response_program.proofs.Books.{ground_of}
 use Rattle.response_program.proofs.Filled.{filled_desks, filled_shape, count_all}
 use Rattle.response_program.proofs.Done.{ended}
+use Rattle.response_program.proofs.Named.{all_behind}
+use Rattle.response_program.proofs.Filling.{either_stop, none_wanting}
 use Rattle.response_program.proofs.Served.{some_is}
+
+-- why the first of some sessions didn't end
+abbrev first_stop : ℕ → List Pair → List (Option Served) → Option Outcome
+first_stop session (pair ∷ pairs) (served ∷ more) = option_or (stop_by pair session served) (first_stop (session + 1) pairs more)
+first_stop session pairs more = None
+
+-- this is told, or that there was no memory
+first_or_none : (session : ℕ) (pairs : List Pair) (more : List (Option Served)) → (stop_in_rounds session pairs more ≡ first_stop session pairs more) ⊎ (stop_in_rounds session pairs more ≡ Some NoMemory)
+first_or_none session [] more = inl refl
+first_or_none session (pair ∷ pairs) [] = inl refl
+first_or_none session (pair ∷ pairs) (served ∷ more) =
+    either_stop (stop_by pair session served) (first_stop (session + 1) pairs more) (stop_in_rounds (session + 1) pairs more) (first_or_none (session + 1) pairs more)
+
+wanting_stop : (pair : Pair) (session : ℕ) (told : Option Served) (m : Bool) → is_wanting told ≡ m → (stop_by pair session told ≢ Some NoMemory) → m ≡ false
+wanting_stop pair session told false is some = refl
+wanting_stop pair session (Some ends.Memory) true is some = absurd (some refl)
+wanting_stop pair session (Some ends.Worn) true is some = absurd (some refl)
+wanting_stop pair session (Some ends.BookFault) true is some = absurd (some refl)
+wanting_stop pair session None true is some = cc
+wanting_stop pair session (Some (ends.Ended count)) true is some = cc
+wanting_stop pair session (Some ends.ReadFault) true is some = cc
+wanting_stop pair session (Some ends.WriteFault) true is some = cc
+wanting_stop pair session (Some ends.Limit) true is some = cc
 
 -- by whether all sessions of a round ended
 by_ended : {P Q R : Type 0} (ended found : Bool) → ended ≡ found → MatchBool found P Q → (ended ≡ true → P → R) → (ended ≡ false → Q → R) → R
@@ -135,6 +159,85 @@ module _ {S K : Type 0} (left : S → Option (List ℕ)) (reads : S → ℕ) (so
   keep (pair ∷ pairs) [] news h k = absurd h
   keep [] [] (new ∷ news) h k = absurd k
   keep (pair ∷ pairs) (old ∷ olds) [] h k = absurd k
+
+  -- sessions that met no fault are whole -----------------------------------------------------------------------------------------
+
+  abbrev Wanted : Desk S K → Type 0
+  Wanted desk = is_wanting desk.served ≡ false
+
+  none_wanted : (session : ℕ) (pairs : List Pair) (desks : List (Desk S K)) → labelled pairs desks → (stop_in_rounds session pairs (servings desks) ≢ Some NoMemory) → AllByRecursion Wanted desks
+  none_wanted session [] [] l some = tt
+  none_wanted session (pair ∷ pairs) (desk ∷ desks) l some =
+      let both = none_wanting (stop_by pair session desk.served) (stop_in_rounds (session + 1) pairs (servings desks)) some in
+      (wanting_stop pair session desk.served (is_wanting desk.served) refl both.0, none_wanted (session + 1) pairs desks l.2 both.1)
+  none_wanted session [] (desk ∷ desks) l some = absurd l
+  none_wanted session (pair ∷ pairs) [] l some = absurd l
+
+  module _ (P R : Desk S K → Desk S K → Spoken → Type 0) (Q : DeskView → DeskView → Spoken → Type 0) where
+    -- what holds of the views of a round's desks holds of them, where none of them was wanting
+    each_unseen : ((pair : Pair) (d t : Desk S K) (s : Spoken) → Wanted t → Q (desk_at left reads taken writes pair d) (desk_at left reads taken writes pair t) s → P d t s)
+        → (pairs : List Pair) (ds ts : List (Desk S K)) (round : List Spoken) (olds news : List (Desk S K)) → labelled pairs (ds ++ olds) → AllByRecursion Wanted (ts ++ news) → EachThree R ds ts round
+        → EachThree Q (take (length round) (seen pairs (ds ++ olds))) (take (length round) (seen pairs (ts ++ news))) round → EachThree P ds ts round
+    each_unseen f pairs [] [] [] olds news l w r h = tt
+    each_unseen f (pair ∷ pairs) (d ∷ ds) (t ∷ ts) (s ∷ round) olds news l w r h = (f pair d t s w.0 h.0, each_unseen f pairs ds ts round olds news l.2 w.1 r.1 h.1)
+    each_unseen f [] (d ∷ ds) (t ∷ ts) (s ∷ round) olds news l w r h = absurd l
+    each_unseen f pairs [] [] (s ∷ round) olds news l w r h = absurd r
+    each_unseen f pairs [] (t ∷ ts) round olds news l w r h = absurd r
+    each_unseen f pairs (d ∷ ds) [] round olds news l w r h = absurd r
+    each_unseen f pairs (d ∷ ds) (t ∷ ts) [] olds news l w r h = absurd r
+
+  -- the views behind those of a round
+  record Later (round : List Spoken) (pairs : List Pair) (ds ts olds news : List (Desk S K)) : Type 0 where
+    pub rest : List Pair
+    pub labelled_are : labelled rest olds
+    pub olds_are : drop (length round) (seen pairs (ds ++ olds)) ≡ seen rest olds
+    pub news_are : drop (length round) (seen pairs (ts ++ news)) ≡ seen rest news
+
+  later_seen : (R : Desk S K → Desk S K → Spoken → Type 0) (pairs : List Pair) (ds ts : List (Desk S K)) (round : List Spoken) (olds news : List (Desk S K)) → labelled pairs (ds ++ olds) → EachThree R ds ts round
+      → Later round pairs ds ts olds news
+  later_seen R pairs [] [] [] olds news l h = record { rest = pairs; labelled_are = l; olds_are = refl; news_are = refl }
+  later_seen R (pair ∷ pairs) (d ∷ ds) (t ∷ ts) (s ∷ round) olds news l h =
+      let more = later_seen R pairs ds ts round olds news l.2 h.1 in
+      record { rest = more.rest; labelled_are = more.labelled_are; olds_are = more.olds_are; news_are = more.news_are }
+  later_seen R [] (d ∷ ds) (t ∷ ts) (s ∷ round) olds news l h = absurd l
+  later_seen R pairs [] [] (s ∷ round) olds news l h = absurd h
+  later_seen R pairs [] (t ∷ ts) round olds news l h = absurd h
+  later_seen R pairs (d ∷ ds) [] round olds news l h = absurd h
+  later_seen R pairs (d ∷ ds) (t ∷ ts) [] olds news l h = absurd h
+
+  abbrev Unhurt : Desk S K → Desk S K → Spoken → Type 0
+  Unhurt d t s = IsUnhurt left taken reads writes d t s
+
+  abbrev WholeUnhurt : Desk S K → Desk S K → Spoken → Type 0
+  WholeUnhurt d t s = Unhurt d t s → IsWholly s
+
+  whole_seen : (pairs : List Pair) (olds news : List (List (Desk S K))) (rounds : List (List Spoken)) → labelled pairs (all_desks olds) → AllByRecursion Wanted (all_desks news) → AreWholeUnhurt left taken reads writes olds news rounds
+      → AreWholeDesks (seen pairs (all_desks olds)) (seen pairs (all_desks news)) rounds
+  whole_seen pairs [] [] [] l w h = tt
+  whole_seen pairs (ds ∷ olds) (ts ∷ news) (round ∷ rounds) l w h = (
+    each_both pairs ds ts round l w h.0,
+    λ unhurt.
+        (let later = later_seen WholeUnhurt pairs ds ts round (all_desks olds) (all_desks news) l h.0 in
+        let here = each_unseen Unhurt WholeUnhurt IsUnhurtDesk (λ pair d t s wanted un. record { read = un.read; written = un.written; within = un.within; not_wanting = wanted }) pairs ds ts round (all_desks olds) (all_desks news) l w h.0 unhurt in
+        subst (λ views. AreWholeDesks views (drop (length round) (seen pairs (ts ++ all_desks news))) rounds) (sym later.olds_are)
+        (subst (λ views. AreWholeDesks (seen later.rest (all_desks olds)) views rounds) (sym later.news_are)
+        (whole_seen later.rest olds news rounds later.labelled_are (all_behind Wanted ts (all_desks news) w) (h.1 here)))),
+  )
+    where
+      each_both : (pairs : List Pair) (ds ts : List (Desk S K)) (round : List Spoken) → labelled pairs (ds ++ all_desks olds) → AllByRecursion Wanted (ts ++ all_desks news) → EachThree WholeUnhurt ds ts round
+          → EachThree (λ old new spoken. IsUnhurtDesk old new spoken → IsWholly spoken) (take (length round) (seen pairs (ds ++ all_desks olds))) (take (length round) (seen pairs (ts ++ all_desks news))) round
+      each_both pairs [] [] [] l w h = tt
+      each_both (pair ∷ pairs) (d ∷ ds) (t ∷ ts) (s ∷ round) l w h =
+          (λ un. h.0 (record { read = un.read; written = un.written; within = un.within; not_wanting = w.0 }), each_both pairs ds ts round l.2 w.1 h.1)
+      each_both [] (d ∷ ds) (t ∷ ts) (s ∷ round) l w h = absurd l
+      each_both pairs [] [] (s ∷ round) l w h = absurd h
+      each_both pairs [] (t ∷ ts) round l w h = absurd h
+      each_both pairs (d ∷ ds) [] round l w h = absurd h
+      each_both pairs (d ∷ ds) (t ∷ ts) [] l w h = absurd h
+  whole_seen pairs [] [] (round ∷ rounds) l w h = absurd h
+  whole_seen pairs [] (ts ∷ news) rounds l w h = absurd h
+  whole_seen pairs (ds ∷ olds) [] rounds l w h = absurd h
+  whole_seen pairs (ds ∷ olds) (ts ∷ news) [] l w h = absurd h
 
   module _ (turn : TurnId) (began : Ground) (whole : Story) where
     abbrev IsOf : ℕ → Story → Story → Desk S K → Desk S K → Type 0
@@ -277,7 +380,7 @@ module _ {S K : Type 0} (left : S → Option (List ℕ)) (reads : S → ℕ) (so
 
   pub in_rounds : (before after : State) (olds news : List (List (Desk S K))) → AreServedAt left reads source_label taken writes sink_label before after olds news → before.earlier ≡ []
       → (pairs : List Pair) → labelled pairs (all_desks olds) → (shape : List ℕ) → map length olds ≡ shape
-      → AreServedInRounds before.base shape after.entries (seen pairs (all_desks olds)) (seen pairs (all_desks news)) (first_stop 1 pairs (servings (all_desks news)))
+      → AreServedInRounds before.base shape after.entries (seen pairs (all_desks olds)) (seen pairs (all_desks news)) (stop_in_rounds 1 pairs (servings (all_desks news)))
   in_rounds before after olds news h first pairs l shape long =
       let began = ground_of before in
       let story = story_of after.entries in
@@ -285,10 +388,12 @@ module _ {S K : Type 0} (left : S → Option (List ℕ)) (reads : S → ℕ) (so
       let based = h.run.basis ∙ h.ground_is in
       let same : history began story ≡ after.entries = ap (λ es. es ++ entries_in story) first ∙ entries_back after.entries in
       let back = λ (legal : IsLegal before.base after.entries). subst (IsLegal before.base) (sym same) legal in
+      let either = first_or_none 1 pairs (servings (all_desks news)) in
+      let labels = run_labelled h.turn began story 1 [] olds news over pairs l in
       record {
-        come = run_come h.turn began story 1 [] olds news over pairs l;
+        come = come_by pairs l labels (run_come h.turn began story 1 [] olds news over pairs l) either;
         done = λ is legal tells.
-            (let run = h.legal began story based h.book_is.story_is (back legal) (all_telling pairs (all_desks olds) l tells) (run_ended h.turn began story 1 [] olds news over pairs l is) in (
+            (let run = h.legal began story based h.book_is.story_is (back legal) (all_telling pairs (all_desks olds) l tells) (run_ended h.turn began story 1 [] olds news over pairs l (none_by pairs is either)) in (
               run.0,
               seen_hold pairs (all_desks olds) (all_desks news) l _ _ run.1,
               run.2 ∙ long,
@@ -301,8 +406,22 @@ module _ {S K : Type 0} (left : S → Option (List ℕ)) (reads : S → ℕ) (so
               seen_hold pairs (all_desks olds) (all_desks news) l _ _ run.1,
               run.2 ∙ long,
               subst (λ es. AreCutRounds before.base es after.entries 1 run.0) first (subst (λ es. AreCutRounds before.base before.earlier es 1 run.0) (entries_back after.entries) run.3),
+              λ some. whole_seen pairs olds news run.0 l (none_wanted 1 pairs (all_desks news) labels some) run.4,
             ));
       }
+    where
+      come_by : (pairs : List Pair) → labelled pairs (all_desks olds) → labelled pairs (all_desks news) → AreCome 1 (seen pairs (all_desks olds)) (seen pairs (all_desks news)) (first_stop 1 pairs (servings (all_desks news)))
+          → (stop_in_rounds 1 pairs (servings (all_desks news)) ≡ first_stop 1 pairs (servings (all_desks news))) ⊎ (stop_in_rounds 1 pairs (servings (all_desks news)) ≡ Some NoMemory)
+          → AreCome 1 (seen pairs (all_desks olds)) (seen pairs (all_desks news)) (stop_in_rounds 1 pairs (servings (all_desks news)))
+      come_by pairs l k come (inl same) = subst (AreCome 1 (seen pairs (all_desks olds)) (seen pairs (all_desks news))) (sym same) come
+      come_by pairs l k come (inr memory) =
+          subst (AreCome 1 (seen pairs (all_desks olds)) (seen pairs (all_desks news))) (sym memory) (rounds.no_memory 1 (seen pairs (all_desks olds)) (seen pairs (all_desks news)) (keep pairs (all_desks olds) (all_desks news) l k))
+
+      none_by : (pairs : List Pair) → stop_in_rounds 1 pairs (servings (all_desks news)) ≡ None
+          → (stop_in_rounds 1 pairs (servings (all_desks news)) ≡ first_stop 1 pairs (servings (all_desks news))) ⊎ (stop_in_rounds 1 pairs (servings (all_desks news)) ≡ Some NoMemory)
+          → first_stop 1 pairs (servings (all_desks news)) ≡ None
+      none_by pairs none (inl same) = sym same ∙ none
+      none_by pairs none (inr memory) = (let never : None ≡ Some NoMemory = sym none ∙ memory in cc)
 
   -- rounds that were filled from a queue ---------------------------------------------------------------------------------------------
 

@@ -1,5 +1,5 @@
 -- What sessions that were served one after the other come to, by what the shelf holds before and after them.
-use Rattle.std.proofs.Common.{◌≡◌, ℕ, suc, ◌+◌, List, [], ◌∷◌, Option, Some, None, true, false, refl, sym, subst, ◌∙◌, arith}
+use Rattle.std.proofs.Common.{◌≡◌, ℕ, ◌+◌, List, [], ◌∷◌, Option, Some, None, true, false, refl, sym, subst, ◌∙◌}
 use Rattle.std.specs.Prelude.{IsSome, take, slice_get, map}
 use Rattle.std.specs.List.{AllByRecursion, flat_map}
 use Rattle.plan_schema.specs.declared.change.Entry.{Entry}
@@ -131,37 +131,3 @@ limit_is pair session number ends.Limit is = (refl, number_is is)
 limit_is pair session number ends.Worn is = cc
 limit_is pair session number ends.BookFault is = cc
 limit_is pair session number ends.Memory is = cc
-
-pub long_at : (contents : Contents) (old : View) → Tells old → (session : ℕ) (earlier entries : List Entry) (olds news : List DeskView) (stop : Option Outcome) → AreServed contents session earlier olds news entries stop
-    → (pairs : List Pair) → AreFresh old pairs olds → (number : ℕ) → stop ≡ Some (TooLong number) → (k : ℕ) × (number ≡ session + k) × IsLongAt old pairs k
-long_at contents old tells _ _ _ _ _ _ (desks.none session entries) pairs fresh number is = cc
-long_at contents old tells _ _ _ _ _ _ (desks.ended session count earlier between entries desk then olds news stop served rest) (pair ∷ pairs) fresh number is =
-    let later = long_at contents old tells (session + 1) between entries olds news stop rest pairs fresh.1 number is in
-    let at = later.2 in (
-      suc later.0,
-      (let is = later.1 in omega (arith, is)),
-      record {
-        pair = at.pair;
-        at = at.at;
-        input = at.input;
-        held = at.held;
-        past = at.past;
-        earlier = (λ text told. ((served.serves text (fresh.0.input ∙ told)).whole count refl).within, at.earlier);
-      },
-    )
-long_at contents old tells _ _ _ _ _ _ (desks.ended session count earlier between entries desk then olds news stop served rest) [] fresh number is = absurd fresh
-long_at contents old tells _ _ _ _ _ _ (desks.stopped session earlier entries desk then olds served outcome had stops) (pair ∷ pairs) fresh number is =
-    let limit = limit_is desk.pair session number served (stops ∙ is) in
-    let input = bytes_in (tells pair.input) in (
-      0,
-      (let is = limit.1 in omega (arith, is)),
-      record {
-        pair = pair;
-        at = refl;
-        input = input.0;
-        held = input.1;
-        past = (had.serves input.0 (fresh.0.input ∙ input.1)).limit limit.0;
-        earlier = tt;
-      },
-    )
-long_at contents old tells _ _ _ _ _ _ (desks.stopped session earlier entries desk then olds served outcome had stops) [] fresh number is = absurd fresh

@@ -1,5 +1,5 @@
 -- Desks that are put into rounds, served side by side there, and taken back.
-use Rattle.std.specs.Prelude.{◌≡◌, ℕ, ◌+◌, true, false, Bool, List, [], ◌∷◌, ◌++◌, length, map, Option, Some, None, IsSome}
+use Rattle.std.specs.Prelude.{◌≡◌, ◌≢◌, ℕ, ◌+◌, true, false, Bool, List, [], ◌∷◌, ◌++◌, length, take, drop, map, Option, Some, None, IsSome}
 use Rattle.std.specs.List.{AllByRecursion}
 use Rattle.plan_schema.specs.declared.change.Entry.{Entry}
 use Rattle.plan_schema.specs.Contents.{Contents}
@@ -14,16 +14,16 @@ use Rattle.session_rules.specs.Runs as runs
 use Rattle.request_loop.specs.Serving.{is_past_limit}
 use Rattle.turn_table.specs.Passes.{TurnId}
 use Rattle.plan_core.specs.State.{State}
-use Rattle.plan_book.specs.declared.ground.Ground.{Ground}
 use Rattle.plan_book.specs.Books.{story_of}
 use Rattle.plan_office.specs.Turns.{Known, IsBookOf}
 use Rattle.desk_rounds.specs.RunOver.{AreRun}
-use Rattle.desk_rounds.specs.Told.{AreLegalIn, AreCutIn, Spoken, AreCutRounds}
+use Rattle.desk_rounds.specs.Three.{EachThree}
+use Rattle.desk_rounds.specs.Told.{AreLegalIn, AreCutIn, Spoken, IsWholly, AreCutRounds}
 use Rattle.program_words.specs.Rounds.{Pair, have_one_pair_each}
 use Rattle.program_words.specs.declared.rounds.PlacedPair.{PlacedPair}
 use Rattle.response_program.specs.Names.{Names}
 use Rattle.response_program.specs.Views.{View}
-use Rattle.response_program.specs.Outcomes.{Outcome, stop_of}
+use Rattle.response_program.specs.Outcomes.{Outcome, NoMemory, stop_of}
 use Rattle.response_program.specs.Desks.{DeskView, Opens, AreGivenBack, HasServedAll}
 
 -- into rounds ----------------------------------------------------------------------------------------------------------------
@@ -83,7 +83,7 @@ module _ {S K : Type 0} (left : S → Option (List ℕ)) (reads : S → ℕ) (so
     pub ground_is : p.basis ≡ Some (record { base = before.base; earlier = before.earlier })
     pub run : AreRun left reads source_label taken writes sink_label turn p q olds news
     pub legal : AreLegalIn left taken q olds news
-    pub cut : AreCutIn left taken q olds news
+    pub cut : AreCutIn left taken reads writes q olds news
     pub faults : ℕ
     pub book_is : IsBookOf q (record { base = after.base; earlier = after.earlier }) (story_of after.entries) faults
 
@@ -104,13 +104,14 @@ KeepNames [] [] = Unit {0}
 KeepNames (old ∷ olds) (new ∷ news) = (new.pair ≡ old.pair) × KeepNames olds news
 KeepNames olds news = ⊥
 
--- desks, numbered on from this, up to the first whose session didn't end: that one's outcome is told
+-- desks, numbered on from this, up to the first whose session didn't end: that one's outcome is told, or that there was no memory
 pub data AreCome : ℕ → List DeskView → List DeskView → Option Outcome → Type 0 where
   none : (session : ℕ) → AreCome session [] [] None
   ended : (session count : ℕ) (old new : DeskView) (olds news : List DeskView) (stop : Option Outcome)
       → IsCome old new (ends.Ended count) → AreCome (session + 1) olds news stop → AreCome session (old ∷ olds) (new ∷ news) stop
   stopped : (session : ℕ) (old new : DeskView) (olds news : List DeskView) (served : Served) (outcome : Outcome)
       → IsCome old new served → stop_of old.pair session served ≡ Some outcome → KeepNames olds news → AreCome session (old ∷ olds) (new ∷ news) (Some outcome)
+  no_memory : (session : ℕ) (olds news : List DeskView) → KeepNames olds news → AreCome session olds news (Some NoMemory)
 
 -- a desk's source tells what it has, and its sink that it has taken nothing yet
 abbrev pub IsTellingDesk : DeskView → Type 0
@@ -122,6 +123,19 @@ DesksHold [] [] [] [] = Unit {0}
 DesksHold (old ∷ olds) (new ∷ news) (input ∷ inputs) (output ∷ outputs) = (old.left ≡ Some input) × (new.taken ≡ Some output) × DesksHold olds news inputs outputs
 DesksHold olds news inputs outputs = ⊥
 
+-- the session of a desk met no fault: no read of its input and no write of its output failed, and its input isn't too long
+pub record IsUnhurtDesk (old new : DeskView) (spoken : Spoken) : Type 0 where
+  pub read : Rose old.reads new.reads → ⊥
+  pub written : Rose old.writes new.writes → ⊥
+  pub within : is_past_limit spoken.input ≡ false
+
+-- a session that met none is whole: in the first round, and in each behind rounds whose sessions all met none
+abbrev pub AreWholeDesks : List DeskView → List DeskView → List (List Spoken) → Type 0
+AreWholeDesks olds news [] = Unit {0}
+AreWholeDesks olds news (round ∷ rounds) =
+    EachThree (λ old new spoken. IsUnhurtDesk old new spoken → IsWholly spoken) (take (length round) olds) (take (length round) news) round
+    × (EachThree IsUnhurtDesk (take (length round) olds) (take (length round) news) round → AreWholeDesks (drop (length round) olds) (drop (length round) news) rounds)
+
 -- desks were served in rounds of these lengths, over contents and with these entries at the end: where all sessions ended they are a legal
 -- run, and else one that was cut short
 pub record AreServedInRounds (contents : Contents) (shape : List ℕ) (entries : List Entry) (olds news : List DeskView) (stop : Option Outcome) : Type 0 where
@@ -131,7 +145,7 @@ pub record AreServedInRounds (contents : Contents) (shape : List ℕ) (entries :
       × (map length rounds ≡ shape) × IsRun contents [] entries rounds × AllByRecursion (λ (desk : runs.Desk). is_past_limit desk.input ≡ false) (all_desks rounds)
   pub cut : IsLegal contents entries → AllByRecursion IsTellingDesk olds
       → (rounds : List (List Spoken)) × DesksHold olds news (map (λ spoken. spoken.input) (all_desks rounds)) (map (λ spoken. spoken.output) (all_desks rounds))
-      × (map length rounds ≡ shape) × AreCutRounds contents [] entries 1 rounds
+      × (map length rounds ≡ shape) × AreCutRounds contents [] entries 1 rounds × (stop ≢ Some NoMemory → AreWholeDesks olds news rounds)
 
 -- all of it ------------------------------------------------------------------------------------------------------------------
 

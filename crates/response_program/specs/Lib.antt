@@ -7,6 +7,7 @@ pub mod Outcomes
 pub mod Desks
 pub mod InRounds
 pub mod Runs
+pub mod Replayed
 pub mod Responses
 pub use Rattle.plan_schema.specs.Outside
 pub use Rattle.plan_schema.specs.Base

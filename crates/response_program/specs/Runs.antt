@@ -1,5 +1,5 @@
 -- What a run comes to, as the shelf tells it.
-use Rattle.std.specs.Prelude.{◌≡◌, ◌≢◌, ◌⊎◌, ℕ, ◌+◌, ◌-◌, true, false, List, [], ◌∷◌, length, take, map, Some, Ok, Err, IsSome, is_some, slice_get}
+use Rattle.std.specs.Prelude.{◌≡◌, ◌≢◌, ◌⊎◌, ℕ, ◌+◌, ◌-◌, true, false, List, [], ◌∷◌, length, take, drop, map, Some, Ok, Err, IsSome, is_some, slice_get}
 use Rattle.std.specs.List.{AllByRecursion}
 use Rattle.plan_schema.specs.declared.change.Entry.{Entry}
 use Rattle.plan_schema.specs.Contents.{Contents}
@@ -12,7 +12,8 @@ use Rattle.session_rules.specs.Runs.{Desk, IsRun}
 use Rattle.request_loop.specs.Serving.{is_past_limit}
 use Rattle.sessions.specs.Serving.{IsServed, IsServedShort}
 use Rattle.byte_lines.specs.Desks.{all_desks}
-use Rattle.desk_rounds.specs.Told.{Spoken, AreCutRounds}
+use Rattle.desk_rounds.specs.Two.{EachTwo}
+use Rattle.desk_rounds.specs.Told.{Spoken, IsWholly, AreCutRounds}
 use Rattle.program_words.specs.Rounds.{have_one_pair_each}
 use Rattle.response_program.specs.declared.ending.Totals.{Totals}
 use Rattle.response_program.specs.Names.{Pair, Names, console}
@@ -90,12 +91,26 @@ pub data AreCut (old new : View) (contents : Contents) : ℕ → List Entry → 
       → IsServedShort (session_of contents session earlier) entries input (Some []) (new.held pair.output)
       → AllByRecursion (λ (other : Pair). new.held other.output ≡ Some []) pairs → AreCut old new contents session earlier (pair ∷ pairs) entries
 
+-- the session of a pair met no fault: no read of its input and no write of its output failed, and its input isn't too long
+pub record IsUnhurt (old new : View) (pair : Pair) (spoken : Spoken) : Type 0 where
+  pub read : Rose (old.reads pair.input) (new.reads pair.input) → ⊥
+  pub written : Rose (old.writes pair.output) (new.writes pair.output) → ⊥
+  pub within : is_past_limit spoken.input ≡ false
+
+-- a session that met none has each of its replies, whole: in the first round, and in each behind rounds whose sessions all met none
+abbrev pub AreWholeUnhurt : View → View → List Pair → List (List Spoken) → Type 0
+AreWholeUnhurt old new pairs [] = Unit {0}
+AreWholeUnhurt old new pairs (round ∷ rounds) =
+    EachTwo (λ pair spoken. IsUnhurt old new pair spoken → IsWholly spoken) (take (length round) pairs) round
+    × (EachTwo (IsUnhurt old new) (take (length round) pairs) round → AreWholeUnhurt old new (drop (length round) pairs) rounds)
+
 -- the same for rounds: all sessions of the rounds before the last that was begun are whole, and each output holds what its session wrote
 pub record AreCutInRounds (old new : View) (names : Names) (contents : Contents) (entries : List Entry) : Type 0 where
   pub rounds : List (List Spoken)
   pub shape : map length rounds ≡ map length names.rounds
   pub held : AreHeld old new names.pairs (map (λ spoken. spoken.input) (all_desks rounds)) (map (λ spoken. spoken.output) (all_desks rounds))
   pub cut : AreCutRounds contents [] entries 1 rounds
+  pub whole : AreWholeUnhurt old new names.pairs rounds
 
 -- one session after the other where each round has one, and else in rounds
 pub record AreCutOver (old new : View) (names : Names) (contents : Contents) (entries : List Entry) : Type 0 where

@@ -3,6 +3,7 @@ ghost use Rattle.std.specs.Prelude.{◌≡◌};
 ghost use Rattle.response_program.specs.Words.{served_by};
 
 use crate::making::Making;
+use crate::replay::Replaying;
 use program_words::{Program, RunWords, Still};
 
 /// What is served.
@@ -12,6 +13,8 @@ pub enum Asked<'a> {
     Run(RunWords<'a>),
     /// A base and an input.
     Make(Making<'a>),
+    /// A session behind a journal.
+    Replay(Replaying<'a>),
 }
 
 impl<'a> Asked<'a> {
@@ -32,6 +35,17 @@ impl<'a> Asked<'a> {
                     start,
                     base,
                     input,
+                })),
+                Still::Replay {
+                    base,
+                    journal,
+                    input,
+                    output,
+                } => Some(Asked::Replay(Replaying {
+                    base,
+                    journal,
+                    input,
+                    output,
                 })),
                 _other => None,
             },

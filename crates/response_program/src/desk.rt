@@ -6,6 +6,7 @@ ghost use Rattle.response_program.specs.Outcomes.{outcome_of};
 ghost use Rattle.response_program.specs.Views.{view};
 ghost use Rattle.response_program.specs.InRounds.{desk_at};
 ghost use Rattle.response_program.specs.Desks.{IsOpened, IsUnopened, IsGivenBack, HasServed};
+ghost use Rattle.response_program.specs.Replayed.{IsOfPair};
 
 use crate::ending::Ending;
 use crate::files::Pair;
@@ -98,6 +99,7 @@ pub fn open_desk<'a, H: Shelf>(
         IsUnopened (view H.held H.open_faults H.read_faults H.write_faults shelf.old)
         (pair_of pair.now) (outcome_of ending)
         (view H.held H.open_faults H.read_faults H.write_faults shelf.new)) }
+    ensures which { IfErr result (λ ending. IsOfPair (pair_of pair.now) (outcome_of ending)) }
 {
     let source = match shelf.open_in(pair.input) {
         Ok(source) => source,

@@ -1,12 +1,12 @@
 //! The desks of a run: opened in order, served one after the other, and closed.
 ghost use Rattle.std.specs.Prelude.{◌≡◌, ◌≤◌, ◌+◌, ◌-◌, ◌++◌, ◌∷◌, [], map, length, option_map};
-ghost use Rattle.std.specs.Prelude.{List, OnOk, IfErr};
+ghost use Rattle.std.specs.Prelude.{List, OnOk, IfOk, IfErr};
 ghost use Rattle.std.specs.VecDeque.{deque_len, deque_capacity};
 ghost use Rattle.program_words.specs.Rounds.{pair_of};
 ghost use Rattle.response_program.specs.Outcomes.{outcome_of};
 ghost use Rattle.response_program.specs.Views.{view};
 ghost use Rattle.response_program.specs.Desks.{DeskView, Opens, StopsOpening, AreGivenBack};
-ghost use Rattle.response_program.specs.Desks.{IsOneServed, AreDone};
+ghost use Rattle.response_program.specs.Desks.{IsOneServed, AreDone, HasServedNone};
 
 use crate::desk::{OpenDesk, close_desk, open_desk, serve_desk};
 use crate::ending::Ending;
@@ -17,8 +17,37 @@ use program_words::PlacedPair;
 use std::alloc::Global;
 use std::collections::VecDeque;
 
+/// Opens the files of all pairs, in order. Where that can't be done, those that were opened are given back.
+pub fn open_all<'a, H: Shelf>(
+    alloc: Global,
+    pairs: &[PlacedPair<'a>],
+    shelf: &mut H,
+) -> Result<VecDeque<OpenDesk<'a, H::In, H::Out>>, Ending<'a>>
+    ensures room { IfOk result (λ waiting. length pairs.now ≤ deque_capacity waiting) }
+    ensures ok { IfOk result (λ waiting.
+        Opens (view H.held H.open_faults H.read_faults H.write_faults shelf.old)
+        (map pair_of pairs.now) waiting.items
+        (view H.held H.open_faults H.read_faults H.write_faults shelf.new)) }
+    ensures err { IfErr result (λ ending.
+        HasServedNone (view H.held H.open_faults H.read_faults H.write_faults shelf.old)
+        (view H.held H.open_faults H.read_faults H.write_faults shelf.new)
+        (map pair_of pairs.now) (outcome_of ending)) }
+{
+    let Ok(mut waiting) = VecDeque::with_capacity(alloc, pairs.len()) else {
+        return Err(Ending::Memory);
+    };
+    match open_desks(pairs, shelf, &mut waiting) {
+        Ok(()) => Ok(waiting),
+        Err(ending) => {
+            close_desks(&mut waiting, shelf);
+            waiting.destroy_empty();
+            Err(ending)
+        }
+    }
+}
+
 /// Opens the files of pairs, in order, up to the first that can't be opened. There is room for the desks.
-pub fn open_desks<'a, H: Shelf>(
+fn open_desks<'a, H: Shelf>(
     pairs: &[PlacedPair<'a>],
     shelf: &mut H,
     waiting: &mut VecDeque<OpenDesk<'a, H::In, H::Out>>,

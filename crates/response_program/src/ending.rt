@@ -11,6 +11,7 @@ use crate::files::Pair;
 use byte_lines::{Served, ShelfFault, Sink, SinkFault, write_all};
 use command_words::{room_bytes, rule_bytes};
 use plan_import::ImportFault;
+use plan_journal::JournalFault;
 use plan_make::MakeFault;
 use plan_walk::Tally;
 use row_text::{RowText, push_number, push_word};
@@ -22,15 +23,37 @@ pub struct Totals {
     pub work: Option<Tally>,
 }
 
+/// What a trial came to: of how many parts, how many requests were answered, and the totals.
+#[derive(Clone, Copy)]
+pub struct Trial {
+    pub parts: u32,
+    pub requests: u64,
+    pub totals: Totals,
+}
+
+/// Why a journal can't be replayed.
+#[derive(Clone, Copy)]
+pub enum BadJournal {
+    /// No journal goes on with the line with this number.
+    Form(u64),
+    /// It has too many bytes.
+    Large,
+    /// The entry with this number is the first that is refused.
+    Refused(u64),
+}
+
 /// How a command ends, with the name of the file that failed.
 #[derive(Clone, Copy)]
 pub enum Ending<'a> {
     Done(Totals),
     /// A base and an input of so many parts are made.
     Made(u32),
+    /// A base and an input were made and served without files.
+    Tried(Trial),
     /// There was no memory, or no turn was left.
     Memory,
     Base(ImportFault),
+    Journal(BadJournal),
     Open(&'a str),
     Read(&'a str),
     Write(&'a str),
@@ -57,6 +80,18 @@ impl<'a> Ending<'a> {
             ImportFault::Read => Ending::Read(name),
             ImportFault::Memory => Ending::Memory,
             fault => Ending::Base(fault),
+        }
+    }
+
+    /// What a journal that wasn't read comes to.
+    pub fn of_journal(name: &'a str, fault: JournalFault) -> Ending<'a>
+        ensures { outcome_of result ≡ spec.of_journal name.now fault }
+    {
+        match fault {
+            JournalFault::Read => Ending::Read(name),
+            JournalFault::Form(line) => Ending::Journal(BadJournal::Form(line)),
+            JournalFault::Large => Ending::Journal(BadJournal::Large),
+            JournalFault::Memory => Ending::Memory,
         }
     }
 
@@ -109,7 +144,7 @@ impl<'a> Ending<'a> {
             Ok(()) => self,
             Err(SinkFault::Memory) => Ending::Memory,
             Err(SinkFault::Failed) => match self {
-                Ending::Done(_) | Ending::Made(_) => Ending::Write(name),
+                Ending::Done(_) | Ending::Made(_) | Ending::Tried(_) => Ending::Write(name),
                 ending => ending,
             },
         }
@@ -121,13 +156,14 @@ impl<'a> Ending<'a> {
         ensures known { result ≢ 2 }
     {
         match self {
-            Ending::Done(_) | Ending::Made(_) => 0,
+            Ending::Done(_) | Ending::Made(_) | Ending::Tried(_) => 0,
             Ending::Memory => 1,
             Ending::Base(_) => 3,
             Ending::Open(_) => 4,
             Ending::Read(_) => 5,
             Ending::Write(_) => 6,
             Ending::Limit(_) => 7,
+            Ending::Journal(_) => 9,
         }
     }
 
@@ -139,8 +175,10 @@ impl<'a> Ending<'a> {
         match self {
             Ending::Done(totals) => write_all(console, done_line(totals).as_slice()),
             Ending::Made(parts) => write_all(console, made_line(*parts).as_slice()),
+            Ending::Tried(trial) => write_all(console, trial_line(trial).as_slice()),
             Ending::Memory => write_all(console, b"memory\n"),
             Ending::Base(fault) => write_all(console, base_line(*fault).as_slice()),
+            Ending::Journal(bad) => write_all(console, journal_line(*bad).as_slice()),
             Ending::Open(name) => tell_of(console, b"open ", name),
             Ending::Read(name) => tell_of(console, b"read ", name),
             Ending::Write(name) => tell_of(console, b"write ", name),
@@ -196,6 +234,44 @@ fn done_line(totals: &Totals) -> RowText
     let _ = text.try_extend_from_slice(b"entries");
     push_number(&mut text, totals.entries);
     push_work(&mut text, totals.work);
+    let _ = text.try_push(b'\n');
+    text
+}
+
+/// The line of a trial.
+fn trial_line(trial: &Trial) -> RowText
+    ensures { result.items ≡ spec.console_line (spec.Tried trial.now) }
+{
+    let mut text = RowText::new();
+    let _ = text.try_extend_from_slice(b"parts");
+    push_number(&mut text, u64::from(trial.parts));
+    push_word(&mut text, b"requests");
+    push_number(&mut text, trial.requests);
+    push_word(&mut text, b"entries");
+    push_number(&mut text, trial.totals.entries);
+    push_work(&mut text, trial.totals.work);
+    let _ = text.try_push(b'\n');
+    text
+}
+
+/// The line for a journal that can't be replayed.
+fn journal_line(bad: BadJournal) -> RowText
+    ensures { result.items ≡ spec.console_line (spec.OfJournal bad) }
+{
+    let mut text = RowText::new();
+    match bad {
+        BadJournal::Form(line) => {
+            let _ = text.try_extend_from_slice(b"journal-form");
+            push_number(&mut text, line);
+        }
+        BadJournal::Large => {
+            let _ = text.try_extend_from_slice(b"journal-large");
+        }
+        BadJournal::Refused(entry) => {
+            let _ = text.try_extend_from_slice(b"journal-refused");
+            push_number(&mut text, entry);
+        }
+    }
     let _ = text.try_push(b'\n');
     text
 }

@@ -7,7 +7,8 @@ ghost use Rattle.byte_lines.specs.Desks.{all_desks, desk_count};
 ghost use Rattle.program_words.specs.declared.rounds.TheConstants.{PAIR_LIMIT};
 ghost use Rattle.program_words.specs.Rounds.{pair_of, rounds_in};
 ghost use Rattle.response_program.specs.Names as names;
-ghost use Rattle.response_program.specs.Outcomes.{NoMemory, outcome_of, stop_by, first_stop};
+ghost use Rattle.response_program.specs.Outcomes.{NoMemory, outcome_of, stop_by, stop_in_rounds};
+ghost use Rattle.response_program.specs.Outcomes as outcomes;
 ghost use Rattle.response_program.specs.Desks.{DeskView};
 ghost use Rattle.response_program.specs.InRounds.{AreNamed, begun, put, desks_at, AreLabelled};
 ghost use Rattle.response_program.specs.InRounds.{AreFilled, AreServedAt, AreServedInRounds};
@@ -192,8 +193,8 @@ fn begin_round<S, K>(begins: bool, rounds: &mut Rounds<S, K>) -> Result<(), Allo
     if begins { rounds.start() } else { Ok(()) }
 }
 
-/// Takes desks back from rounds, the last first, in front of those in a queue that has room for them. Answers why the first of them
-/// that was served and didn't end didn't.
+/// Takes desks back from rounds, the last first, in front of those in a queue that has room for them. Answers why not all of their
+/// sessions ended: for want of memory, where one of them met it, and else as the first that didn't end.
 fn take_back<'a, S: Source, K: Sink>(
     pairs: &[PlacedPair<'a>],
     rounds: &mut Rounds<S, K>,
@@ -204,7 +205,7 @@ fn take_back<'a, S: Source, K: Sink>(
     requires room { length pairs.now ≤ deque_capacity waiting.old - deque_len waiting.old }
     ensures desks { waiting.new.items ≡ desks_at S.left S.faults K.taken K.faults
         (map pair_of pairs.now) (all_desks rounds.old) ++ waiting.old.items }
-    ensures stop { option_map outcome_of result ≡ first_stop 1 (map pair_of pairs.now)
+    ensures stop { option_map outcome_of result ≡ stop_in_rounds 1 (map pair_of pairs.now)
         (map (λ desk. desk.served) (all_desks rounds.old)) }
 {
     match pairs.split_last() {
@@ -215,9 +216,21 @@ fn take_back<'a, S: Source, K: Sink>(
                 let pair = Pair::of(placed);
                 let stop = stop_at(&pair, pairs.len() as u64, desk.served);
                 waiting.push_front_reserved(OpenDesk::named(pair, desk));
-                take_back(rest, rounds, waiting).or(stop)
+                let earlier = take_back(rest, rounds, waiting);
+                first_or_memory(earlier, stop)
             }
         },
+    }
+}
+
+/// Of two stops the first, but want of memory tops it.
+fn first_or_memory<'a>(earlier: Option<Ending<'a>>, later: Option<Ending<'a>>) -> Option<Ending<'a>>
+    ensures { option_map outcome_of result ≡ outcomes.first_or_memory
+        (option_map outcome_of earlier.entry) (option_map outcome_of later.entry) }
+{
+    match later {
+        Some(Ending::Memory) => later,
+        _ => earlier.or(later),
     }
 }
 

@@ -9,6 +9,7 @@ mod ending;
 mod files;
 mod in_rounds;
 mod making;
+mod replay;
 mod run;
 
 pub use run::response;

@@ -17,15 +17,17 @@ ghost use Rattle.response_program.specs.Words.{served};
 ghost use Rattle.program_words.specs.declared.program.Program.TheVariants as program;
 ghost use Rattle.program_words.specs.declared.program.Still.TheVariants as still;
 ghost use Rattle.response_program.specs.Making.{HasMade};
+ghost use Rattle.response_program.specs.Replayed.{HasReplayed, replay_names};
 ghost use Rattle.response_program.specs.Responses.{HasResponded, HasRefused};
 
 use crate::asked::Asked;
 use crate::console::{CONSOLE, tell_ending};
-use crate::desks::{close_desks, open_desks, serve_desks};
+use crate::desks::{close_desks, open_all, serve_desks};
 use crate::ending::{Ending, Totals};
 use crate::files::RunFiles;
 use crate::in_rounds::{Ran, serve_in_rounds};
 use crate::making::make_told;
+use crate::replay::{ReplayFiles, replay_told};
 use byte_lines::{Shelf, ShelfFault, SinkFault, write_all};
 use plan_book::{Book, PlanBook};
 use plan_import::import;
@@ -33,7 +35,6 @@ use plan_journal::write_journal;
 use plan_schema::Contents;
 use program_words::{PlacedPair, WordFault, read_words};
 use std::alloc::Global;
-use std::collections::VecDeque;
 use std::sync::Wait;
 use std::thread::Threads;
 
@@ -45,7 +46,8 @@ const NO_MEMORY: u8 = 1;
 
 /// Does what the words ask for with the files of a shelf, tells the console how it ended, and answers the status: 0 where all ended,
 /// 1 for want of memory, 2 where the words aren't the program's, 3 where the base is refused, 4, 5 and 6 where a file couldn't be
-/// opened, read and written, and 7 where the input passed its limit. Sessions of a round wait for each other's turns.
+/// opened, read and written, 7 where the input passed its limit, and 9 where a journal can't be replayed. Sessions of a round wait for
+/// each other's turns.
 pub fn response<H: Shelf, R: Threads + Wait + Sync>(
     rt: &R,
     alloc: Global,
@@ -65,6 +67,12 @@ where
         → HasMade (view H.held H.open_faults H.read_faults H.write_faults shelf.old)
         (view H.held H.open_faults H.read_faults H.write_faults shelf.new) parts start base input
         result }
+    ensures replay { (base journal input output : List ℕ)
+        → program_of (map string_bytes words.now)
+        ≡ Some (program.Still (still.Replay base journal input output))
+        → HasReplayed (view H.held H.open_faults H.read_faults H.write_faults shelf.old)
+        (view H.held H.open_faults H.read_faults H.write_faults shelf.new)
+        (replay_names base journal input output) result }
     ensures words { served (program_of (map string_bytes words.now)) ≡ None
         → HasRefused (view H.held H.open_faults H.read_faults H.write_faults shelf.old)
         (view H.held H.open_faults H.read_faults H.write_faults shelf.new) result }
@@ -73,6 +81,9 @@ where
         Ok(program) => match Asked::of(program) {
             Some(Asked::Run(run)) => run_told(rt, alloc, run.memo, &RunFiles::of(&run), shelf),
             Some(Asked::Make(making)) => make_told(&making, shelf),
+            Some(Asked::Replay(replaying)) => {
+                replay_told(alloc, &ReplayFiles::of(&replaying), shelf)
+            }
             None => refuse(shelf),
         },
         Err(WordFault::Words) => refuse(shelf),
@@ -297,22 +308,11 @@ where
         (view H.held H.open_faults H.read_faults H.write_faults shelf.new)
         (map pair_of pairs.now) (outcome_of ending)) }
 {
-    let Ok(mut waiting) = VecDeque::with_capacity(alloc, pairs.len()) else {
-        return Err(Ending::Memory);
-    };
-    match open_desks(pairs, shelf, &mut waiting) {
-        Ok(()) => {
-            let ran = serve_in_rounds(rt, alloc, pairs, book, &mut waiting);
-            close_desks(&mut waiting, shelf);
-            waiting.destroy_empty();
-            ran
-        }
-        Err(ending) => {
-            close_desks(&mut waiting, shelf);
-            waiting.destroy_empty();
-            Err(ending)
-        }
-    }
+    let mut waiting = open_all(alloc, pairs, shelf)?;
+    let ran = serve_in_rounds(rt, alloc, pairs, book, &mut waiting);
+    close_desks(&mut waiting, shelf);
+    waiting.destroy_empty();
+    ran
 }
 
 /// Opens the files of all pairs, serves their sessions one after the other, and gives the files back.
@@ -336,20 +336,9 @@ fn run_in_order<'a, H: Shelf>(
         (view H.held H.open_faults H.read_faults H.write_faults shelf.new)
         (map pair_of pairs.now) (outcome_of ending)) }
 {
-    let Ok(mut waiting) = VecDeque::with_capacity(alloc, pairs.len()) else {
-        return Err(Ending::Memory);
-    };
-    match open_desks(pairs, shelf, &mut waiting) {
-        Ok(()) => {
-            let mut book = book;
-            let stop = serve_desks(alloc, 1, &mut book, &mut waiting, shelf);
-            waiting.destroy_empty();
-            Ok(Ran { book, stop })
-        }
-        Err(ending) => {
-            close_desks(&mut waiting, shelf);
-            waiting.destroy_empty();
-            Err(ending)
-        }
-    }
+    let mut waiting = open_all(alloc, pairs, shelf)?;
+    let mut book = book;
+    let stop = serve_desks(alloc, 1, &mut book, &mut waiting, shelf);
+    waiting.destroy_empty();
+    Ok(Ran { book, stop })
 }

@@ -44,6 +44,7 @@ answer_prints base entries user (commands.Show scenario cell) = query_prints (le
 answer_prints base entries user (commands.Level scenario part) = query_prints (length entries) _ _
 answer_prints base entries user (commands.Plan scenario part) = query_prints (length entries) _ _
 answer_prints base entries user (commands.Peg scenario part day) = query_prints (length entries) _ _
+answer_prints base entries user (commands.Trace scenario part day) = query_prints (length entries) _ _
 answer_prints base entries user (commands.Atp scenario part) = query_prints (length entries) _ _
 answer_prints base entries user (commands.Cost scenario part) = query_prints (length entries) _ _
 answer_prints base entries user (commands.Select scenario text) =

@@ -20,7 +20,7 @@ use Rattle.command_words.specs.declared.reply.Reply.{Reply}
 use Rattle.command_words.specs.declared.reply.Reply.TheVariants as replies
 use Rattle.command_words.specs.declared.reply.Bad.TheVariants as bads
 use Rattle.command_words.specs.Words.{words_of}
-use Rattle.command_words.specs.Commands.{command_of, command_of_verb, hello_of, point_of, put_of, del_of, plan_of, quit_of, only_name, two_names}
+use Rattle.command_words.specs.Commands.{command_of, command_of_verb, hello_of, point_of, put_of, del_of, plan_of, trace_of, quit_of, only_name, two_names}
 use Rattle.command_words.specs.Verbs.{verb_of}
 use Rattle.plan_schema.specs.declared.fault.Rule.TheVariants as rules
 use Rattle.plan_schema.specs.Name.{is_name}
@@ -244,7 +244,7 @@ no_such_scenario : answer one_part [] guest (commands.Plan x a) ≡ Some (replie
 unfolding answer
 no_such_scenario = refl
 
--- requests: blank lines are counted, the faults of the grammar are told, and a word that isn't served is no command -------------------
+-- requests: blank lines are counted, and the faults of the grammar are told -----------------------------------------------------------
 
 an_input_is_read : requests_of (codes "PLAN Baseline A\r\n \n\nFOO\nPLAN Baseline\nPLAN x y")
     ≡ record { line = 1; wish = Asks (commands.Plan root a) }
@@ -265,15 +265,51 @@ changes_are_read : requests_of (codes "HELLO ann\nDEL Baseline DEMAND A D1\nPOIN
 unfolding requests_within reading words_of command_of command_of_verb verb_of hello_of only_name del_of point_of quit_of key_of key_of_table row_words.two_names lines_of text_of_line name_at text_at end_at name_in is_name
 changes_are_read = refl
 
--- a bill is read as any other row, and what stands before the table is looked at first; a command that isn't served counts as none
+-- a bill is read as any other row, and what stands before the table is looked at first
 bills_are_read : requests_of (codes "PUT Baseline BILL\nDEL - BILL A B\nDEL Baseline BILL A D1\nTRACE Baseline A\n")
     ≡ record { line = 1; wish = IsBad (bads.Field (record { field = 3; rule = rules.Shape })) }
     ∷ record { line = 2; wish = IsBad (bads.Field (record { field = 1; rule = rules.Shape })) }
     ∷ record { line = 3; wish = Makes (changes.Del root (keys.Bill a (codes "D1"))) }
-    ∷ record { line = 4; wish = IsBad bads.Word }
+    ∷ record { line = 4; wish = IsBad (bads.Field (record { field = 3; rule = rules.Shape })) }
     ∷ []
-unfolding requests_within reading words_of command_of command_of_verb verb_of put_of del_of key_of key_of_table row_words.bill_key_of row_words.component_at row_words.two_names row_of row_of_table bill_of lines_of text_of_line name_at text_at end_at name_in is_name
+unfolding requests_within reading words_of command_of command_of_verb verb_of put_of del_of trace_of key_of key_of_table row_words.bill_key_of row_words.component_at row_words.two_names row_of row_of_table bill_of lines_of text_of_line name_at row_words.day_at text_at end_at name_in is_name
 bills_are_read = refl
+
+-- full pegging: what a planned receipt is for --------------------------------------------------------------------------------------------
+
+the_planned_receipt_is_for_the_demand : answer three_parts [] guest (commands.Trace root a 9195) ≡ Some (replies.Rows 0 (codes "DEMAND A D1 20" ∷ []))
+unfolding answer digits
+the_planned_receipt_is_for_the_demand = refl
+
+and_so_is_that_of_its_component : answer three_parts [] guest (commands.Trace root b 9193) ≡ Some (replies.Rows 0 (codes "DEMAND A D1 60" ∷ []))
+unfolding answer digits
+and_so_is_that_of_its_component = refl
+
+nothing_is_received_on_another_day : answer three_parts [] guest (commands.Trace root a 9194) ≡ Some (replies.Rows 0 [])
+unfolding answer
+nothing_is_received_on_another_day = refl
+
+a_day_past_the_horizon_is_refused : answer three_parts [] guest (commands.Trace root a 9198) ≡ Some (replies.No 0 (refusals.NoDay 9198))
+unfolding answer
+a_day_past_the_horizon_is_refused = refl
+
+but_the_part_is_looked_at_first : answer three_parts [] guest (commands.Trace root (codes "Q") 9198) ≡ Some (replies.No 0 (refusals.NoPart (codes "Q")))
+unfolding answer
+but_the_part_is_looked_at_first = refl
+
+-- A is ordered by fifteens, so ten are left over, and so is what they take of B
+abbrev by_fifteens : List Entry
+by_fifteens = by guest 1 (changes.Put root (keys.Part a) (records.Part 2 (lots.Fixed 15) 0 None)) ∷ []
+
+what_is_left_over_is_surplus : answer three_parts by_fifteens guest (commands.Trace root a 9195)
+    ≡ Some (replies.Rows 1 (codes "DEMAND A D1 20" ∷ codes "SURPLUS A 10" ∷ []))
+unfolding answer digits
+what_is_left_over_is_surplus = refl
+
+and_so_is_what_it_takes : answer three_parts by_fifteens guest (commands.Trace root b 9193)
+    ≡ Some (replies.Rows 1 (codes "DEMAND A D1 60" ∷ codes "SURPLUS A 30" ∷ []))
+unfolding answer digits
+and_so_is_what_it_takes = refl
 
 -- entries and points of accepted changes -------------------------------------------------------------------------------------------------
 

@@ -22,6 +22,7 @@ use Rattle.planning_rules.specs.Plan.{Known, Planned, plan, stock_in}
 use Rattle.planning_rules.specs.Refused.{plan_refusal, level_refusal}
 use Rattle.planning_rules.specs.Pegs.{Peg, FromDemand, FromParent, pegs, no_day}
 use Rattle.planning_rules.specs.Promise.{promise_on}
+use Rattle.planning_rules.specs.Trace.{End, AtDemand, Surplus, trace}
 use Rattle.scenario_rules.specs.World.{World, Scenario, contents_in, may_use}
 use Rattle.scenario_rules.specs.Steps.{world_after}
 use Rattle.scenario_rules.specs.Refused.{access_refusal, refused}
@@ -61,6 +62,11 @@ plan_lines start days lists = map (plan_line start lists) (filter (is_eventful l
 abbrev pub peg_line : Peg → List ℕ
 peg_line (FromDemand order qty) = words_text (codes "DEMAND" ∷ order ∷ decimal qty ∷ [])
 peg_line (FromParent parent qty) = words_text (codes "BILL" ∷ parent ∷ decimal qty ∷ [])
+
+-- where units of a planned receipt end, at an independent demand or as surplus of a part, and how many
+abbrev pub share_line : (End × ℕ) → List ℕ
+share_line (AtDemand part order, qty) = words_text (codes "DEMAND" ∷ part ∷ order ∷ decimal qty ∷ [])
+share_line (Surplus part, qty) = words_text (codes "SURPLUS" ∷ part ∷ decimal qty ∷ [])
 
 -- what can be promised on a day, with its date
 abbrev pub promise_line : ℕ → Lists → ℕ → List ℕ
@@ -118,6 +124,9 @@ module _ (world : World) (point : ℕ) (user scenario : Name) where
   abbrev pub peg_answer : Contents → Name → ℕ → Option Reply
   peg_answer c part day = query_answer (first_of (plan_refusal c (part ∷ []) ∷ no_day c day ∷ [])) (map peg_line (pegs c part (day - start_of c)))
 
+  abbrev pub trace_answer : Contents → Name → ℕ → Option Reply
+  trace_answer c part day = query_answer (first_of (plan_refusal c (part ∷ []) ∷ no_day c day ∷ [])) (map share_line (trace c part (day - start_of c)))
+
   abbrev pub promise_answer : Contents → Name → Option Reply
   promise_answer c part = query_answer (plan_refusal c (part ∷ [])) (map (promise_line (start_of c) (lists_of (plan c part))) (range_with_len 0 (days_of c)))
 
@@ -148,6 +157,9 @@ answer base history user (commands.Plan scenario part) =
 answer base history user (commands.Peg scenario part day) =
     let world = world_after base history in
     peg_answer world (length history) user scenario (contents_in world scenario) part day
+answer base history user (commands.Trace scenario part day) =
+    let world = world_after base history in
+    trace_answer world (length history) user scenario (contents_in world scenario) part day
 answer base history user (commands.Atp scenario part) =
     let world = world_after base history in
     promise_answer world (length history) user scenario (contents_in world scenario) part

@@ -1,8 +1,7 @@
 -- The requests of an input. A request is a line that isn't blank, or a LOAD with the rows of the lines that follow it.
-use Rattle.std.specs.Prelude.{ℕ, zero, suc, Bool, true, false, not, ◌&&◌, nat_eq, nat_lt, List, [], ◌∷◌, length, take, drop, map, filter, Option, Some, None, Result, Ok, Err, if◌then◌else◌, codes}
-use Rattle.std.specs.List.{list_any, slice_get, filter_map, enumerate_from}
+use Rattle.std.specs.Prelude.{ℕ, zero, suc, Bool, true, false, not, nat_lt, List, [], ◌∷◌, length, take, drop, map, filter, Option, Some, None, Result, Ok, Err, if◌then◌else◌, codes}
+use Rattle.std.specs.List.{filter_map, enumerate_from}
 use Rattle.std.specs.Result.{result_ok}
-use Rattle.std.specs.Cmp.Lexicographic.{pointwise}
 use Rattle.plan_schema.specs.declared.name.Name.{Name}
 use Rattle.plan_schema.specs.declared.key.Key.{Key}
 use Rattle.plan_schema.specs.declared.key.Record.{Record}
@@ -35,26 +34,10 @@ request_lines input = filter (λ line. not (is_blank_line line)) (enumerate_from
 
 -- commands ---------------------------------------------------------------------------------------------------------------
 
--- command words of the grammar that the program doesn't serve yet; each counts as no command
-abbrev pub unserved_words : List (List ℕ)
-unserved_words = codes "TRACE" ∷ []
-
-abbrev pub is_one_of : List (List ℕ) → List ℕ → Bool
-is_one_of words word = list_any (λ other. pointwise nat_eq word other) words
-
--- whether the program serves the command that these words begin with
-abbrev pub is_served : List (List ℕ) → Bool
-is_served [] = false
-is_served (word ∷ words) = not (is_one_of unserved_words word)
-
--- what these words are read as, where this is what the grammar makes of them
-abbrev pub served_reading : List (List ℕ) → Result Command Bad → Result Command Bad
-served_reading words read = if is_served words then read else Err bads.Word
-
 -- what a line is read as: a command, or why it is none
 unfoldable pub reading : Line → Result Command Bad
 reading (number, None) = Err bads.Long
-reading (number, Some text) = served_reading (words_of text) (command_of text)
+reading (number, Some text) = command_of text
 
 -- requests ---------------------------------------------------------------------------------------------------------------
 

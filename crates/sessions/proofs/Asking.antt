@@ -18,11 +18,11 @@ use Rattle.command_words.specs.Spelling.{is_query, is_query_text, is_sound_comma
 use Rattle.walk_rules.specs.Cells.{records}
 use Rattle.plan_jobs.specs.declared.job.Job.{Job}
 use Rattle.plan_jobs.specs.declared.job.Wanted.{Wanted}
-use Rattle.plan_jobs.specs.Jobs.{asked_by, wants_plan}
+use Rattle.plan_jobs.specs.Jobs.{asked_by}
 use Rattle.walk_names.specs.declared.trouble.Trouble.{Trouble}
 use Rattle.walk_names.specs.declared.trouble.Trouble.TheVariants as troubles
 use Rattle.walk_names.specs.Names.{IsTrouble}
-use Rattle.plan_answer.specs.Asks.{Question, ShowsCell, TellsLevel, TellsPlan, Pegs, Promises, TellsCosts, Selects, question_of, wanted_by, asks_for_plan}
+use Rattle.plan_answer.specs.Asks.{Question, ShowsCell, TellsLevel, TellsPlan, Pegs, Traces, Promises, TellsCosts, Selects, question_of, wanted_by, asks_for_plan}
 use Rattle.plan_answer.specs.Planned.{wants_of}
 use Rattle.plan_answer.specs.Replies.{reply_of}
 use Rattle.plan_core.specs.State.{State, history}
@@ -51,6 +51,7 @@ has_question (commands.Show scenario cell) want sound is = (ShowsCell cell, refl
 has_question (commands.Level scenario part) want sound is = (TellsLevel part, refl)
 has_question (commands.Plan scenario part) want sound is = (TellsPlan part, refl)
 has_question (commands.Peg scenario part day) want sound is = (Pegs part day, refl)
+has_question (commands.Trace scenario part day) want sound is = (Traces part day, refl)
 has_question (commands.Atp scenario part) want sound is = (Promises part, refl)
 has_question (commands.Cost scenario part) want sound is = (TellsCosts part, refl)
 has_question (commands.Select scenario text) want sound is =
@@ -58,16 +59,6 @@ has_question (commands.Select scenario text) want sound is =
     let two = and_parts (is_query_text text) (is_query text) one.1 in
     (Selects (tree_of text), ap (λ r. option_map Selects (result_ok r)) (is_read text two.1))
 has_question _ want sound is = absurd (let never : ⊥ = cc in never)
-
--- what asks for plans wants a plan
-pub wants_its_plan : (asked : Question) → asks_for_plan asked ≡ true → wants_plan (wants_of asked) ≡ true
-wants_its_plan (ShowsCell cell) uses = absurd (let never : ⊥ = cc in never)
-wants_its_plan (TellsLevel part) uses = absurd (let never : ⊥ = cc in never)
-wants_its_plan (TellsPlan part) uses = refl
-wants_its_plan (Pegs part day) uses = refl
-wants_its_plan (Promises part) uses = refl
-wants_its_plan (TellsCosts part) uses = refl
-wants_its_plan (Selects query) uses = refl
 
 -- the answer after all entries of a book
 abbrev IsExact : State → Name → Command → Reply → Type 0

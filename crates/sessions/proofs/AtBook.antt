@@ -1,21 +1,17 @@
 -- Answers at the state of a book that nobody else changes.
-use Rattle.std.proofs.Common.{◌≡◌, ℕ, ◌++◌, ◌+◌, ◌≤◌, List, length, Some, refl, sym, ap, subst, ◌∙◌, arith, length-append}
+use Rattle.std.proofs.Common.{◌≡◌, ℕ, ◌≤◌, length, Some, sym, ap, subst, ◌∙◌, arith, length-append}
 use Rattle.plan_schema.specs.declared.name.Name.{Name}
-use Rattle.plan_schema.specs.declared.change.Entry.{Entry}
-use Rattle.plan_schema.specs.Contents.{Contents}
 use Rattle.command_words.specs.declared.command.Command.{Command}
 use Rattle.command_words.specs.declared.reply.Reply.{Reply}
-use Rattle.command_words.specs.declared.reply.Reply.TheVariants as replies
 use Rattle.turn_table.specs.Story.{Begins}
 use Rattle.turn_table.proofs.Stories.{begins-whole}
 use Rattle.plan_book.specs.declared.ground.Ground.{Ground}
-use Rattle.plan_book.specs.Books.{Story, history, IsSameStory}
+use Rattle.plan_book.specs.Books.{Story, history}
 use Rattle.session_rules.specs.Answers.{answer}
 use Rattle.sessions.specs.declared.terms.Terms.{Terms}
 use Rattle.sessions.specs.Alone.{sight_of}
 use Rattle.sessions.specs.Sights.{Sight, Looks}
 use Rattle.sessions.specs.Answered.{IsExactOn}
-use Rattle.sessions.proofs.Exact.{no_memory_answer}
 
 -- what stands between two lists that are one is this one
 no_shorter : (xs ys : Story) → Begins xs ys → length xs ≤ length ys

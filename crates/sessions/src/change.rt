@@ -1,5 +1,6 @@
 //! Replies to changes, which are entered in the book.
 ghost use Rattle.std.specs.Prelude.{◌≡◌, ◌≤◌, true, IfErr, IfOk};
+ghost use Rattle.plan_schema.specs.declared.limits.TheConstants.{LINE_LIMIT};
 ghost use Rattle.plan_schema.specs.Sound.{is_sound_change};
 ghost use Rattle.request_loop.specs.Exchanges.{to_make};
 ghost use Rattle.sessions.specs.Replied.{Gives, Stops};
@@ -21,7 +22,7 @@ pub fn reply_to_change<T: Reach>(
     requires ready { T.ready reach.now state.old }
     requires sound { is_sound_change change ≡ true }
     requires line { 1 ≤ line }
-    requires most_lines { line ≤ 1000000 }
+    requires most_lines { line ≤ LINE_LIMIT }
     ensures ready { T.ready reach.now state.new }
     ensures ok { IfOk result
         (λ reply. Gives (T.sight reach.now) state.old state.new user.now

@@ -1,5 +1,6 @@
 //! How a session reaches its book.
 ghost use Rattle.std.specs.Prelude.{◌≡◌, ◌≤◌, true, length, Err, IfOk, IfErr, OnOk, OnErr};
+ghost use Rattle.plan_schema.specs.declared.limits.TheConstants.{LINE_LIMIT};
 ghost use Rattle.plan_schema.specs.Sound.{is_sound_change};
 ghost use Rattle.plan_walk.specs.Walk.{IsOpen, IsSolved, EndsSettled};
 ghost use Rattle.plan_office.specs.declared.fault.OfficeFault.TheVariants as office;
@@ -46,7 +47,7 @@ pub trait Reach {
         requires ready { ready self.now state.old }
         requires sound { is_sound_change change ≡ true }
         requires line { 1 ≤ line }
-        requires most_lines { line ≤ 1000000 }
+        requires most_lines { line ≤ LINE_LIMIT }
         ensures ready { ready self.now state.new }
         ensures made { IsMade (sight self.now) (failed self.now) (worn self.now) state.old state.new
             (entry_at (sight self.now state.old) line user.now change) result };

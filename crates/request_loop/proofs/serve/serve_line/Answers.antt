@@ -26,7 +26,7 @@ returns-in-Ok-None-clause-served g c old input left before so =
 pub returns-in-Err-clause-served : goal.returns-in-Err-clause-served
 returns-in-Err-clause-served g c old input left before so =
     stopped (g.A.Answers.gives c.args.answers.now) (g.A.Answers.stops c.args.answers.now) g.K.Sink.taken old c.args.state.now input c.args.progress.now.lines c.args.progress.now.requests c.args.progress.now.user c.args.progress.now.rows c.args.page.now.items before c.args.sink.now
-    (line_of c.args.progress.now.cutter.kept) left so c.hear-heard.new.state c.hear-heard.new.user c.hear-heard.new.rows c.hear-heard.new.rows (c.args.progress.now.lines + 1) c.args.progress.now.requests c.hear-heard.new.user c.hear-heard.new.page.items c.hear-heard.new.sink c.in-Err.stop
+    (line_of c.args.progress.now.cutter.kept) left so c.hear-heard.new.state c.hear-heard.new.user c.hear-heard.new.rows c.hear-heard.new.rows c.args.progress.now.requests c.hear-heard.new.user c.hear-heard.new.page.items c.hear-heard.new.sink c.in-Err.stop (omega (arith, c.if-progress-ge-LINE_LIMIT.false))
     (a_stop (g.A.Answers.gives c.args.answers.now) (g.A.Answers.stops c.args.answers.now) g.K.Sink.taken c.args.state.now c.hear-heard.new.state c.args.progress.now.user c.hear-heard.new.user so.kept c.hear-heard.new.rows (c.args.progress.now.lines + 1) (option_map (λ text. text.now) c.text_of.result) (line_of c.args.progress.now.cutter.kept) (c.text_of.ensures ∙ c.line.ensures)
     c.args.page.now.items c.hear-heard.new.page.items c.args.sink.now c.hear-heard.new.sink c.in-Err.stop (c.in-Err.ensures.heard so.kept so.gathered))
 

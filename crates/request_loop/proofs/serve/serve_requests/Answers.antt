@@ -76,7 +76,9 @@ returns-in-Err-served-clause-served g c =
           (λ is. quit_within (g.A.Answers.gives c.args.answers.now) (g.A.Answers.stops c.args.answers.now) g.K.Sink.taken c.args.state.now c.serve_piece-served.new.state (going.front ++ (take c.min-within.result c.read-in-reads.new.into ++ rest.0)) c.serve_piece-served.new.page.items (g.K.Sink.taken c.args.sink.now) c.serve_piece-served.new.sink c.ended-in-Err-served.new.sink
           (going.front ++ take c.min-within.result c.read-in-reads.new.into) rest.0 c.serve_piece-served.new.progress.lines c.serve_piece-served.new.progress.requests (sym (append_assoc going.front (take c.min-within.result c.read-in-reads.new.into) rest.0)) (let b = bytes in omega (arith, b)) (let n = lines in let few = c.in-Err-served.ensures.most in omega (arith, n, few)))
           (λ is. lines_in_time (going.front ++ (take c.min-within.result c.read-in-reads.new.into ++ rest.0)) (going.front ++ take c.min-within.result c.read-in-reads.new.into) rest.0 (sym (append_assoc going.front (take c.min-within.result c.read-in-reads.new.into) rest.0)) line_limit
-          (let b = bytes in omega (arith, b)) (let n = lines in let full = c.in-Err-served.ensures.full (ap Err is) in omega (arith, n, full)));
+          (let b = bytes in omega (arith, b)) (let n = lines in let full = c.in-Err-served.ensures.full (ap Err is) in omega (arith, n, full)))
+          (lines_in_time (going.front ++ (take c.min-within.result c.read-in-reads.new.into ++ rest.0)) (going.front ++ take c.min-within.result c.read-in-reads.new.into) rest.0 (sym (append_assoc going.front (take c.min-within.result c.read-in-reads.new.into) rest.0)) c.serve_piece-served.new.progress.lines
+          (let b = bytes in omega (arith, b)) (let n = lines in let few = c.in-Err-served.ensures.most in omega (arith, n, few)));
     }
 
 pub returns-then-within-count-clause-served : goal.returns-then-within-count-clause-served

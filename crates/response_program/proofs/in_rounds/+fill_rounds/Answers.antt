@@ -1,6 +1,4 @@
-use Rattle.std.proofs.Common.{rules, ◌≡◌, ◌<◌, List, [], ◌∷◌, ◌++◌, length, sym, subst, ◌∙◌}
-use Rattle.std.specs.Prelude.{map}
-use Rattle.program_words.specs.Rounds.{pair_of}
+use Rattle.std.proofs.Common.{rules, ◌<◌, [], ◌∷◌, length, sym, subst}
 use Rattle.response_program.specs.Desks.{DeskView}
 use Rattle.response_program.specs.InRounds.{begun}
 use Rattle.response_program.proofs.Queues.{empty_queue, front, on_ok, on_err}

@@ -1,11 +1,10 @@
-use Rattle.std.proofs.Common.{rules, arith, ◌≡◌, ◌++◌, ◌∷◌, length, refl, sym, ap, subst, ◌∙◌}
+use Rattle.std.proofs.Common.{rules, arith, ◌++◌, ◌∷◌, length, refl, sym, ap, subst, ◌∙◌}
 use Rattle.std.specs.Prelude.{map, option_map, IsNone}
-use Rattle.std.specs.Option.{option_or}
 use Rattle.program_words.specs.Rounds.{pair_of}
-use Rattle.response_program.specs.Outcomes.{outcome_of, stop_by, first_stop}
+use Rattle.response_program.specs.Outcomes.{outcome_of, stop_by, first_or_memory, stop_in_rounds}
 use Rattle.response_program.specs.InRounds.{desk_at, desks_at}
 use Rattle.byte_lines.specs.Desks.{all_desks}
-use Rattle.response_program.proofs.Filling.{last_taken, back_seen, back_stop, no_back, map_or}
+use Rattle.response_program.proofs.Filling.{last_taken, back_seen, back_stop, no_back}
 use Rattle.response_program.proofs.in_rounds.+take_back.Goals as goal
 
 pub named-requires-clause-source : goal.named-requires-clause-source
@@ -18,8 +17,8 @@ named-requires-clause-sink g _ c =
     (last_taken g.S.Source.left g.S.Source.faults g.S.Source.label g.K.Sink.taken g.K.Sink.faults g.K.Sink.label c.args.pairs.now c.in-Some.rest.now c.in-Some.placed.now c.args.rounds.now c.pop.new.self c.pop.result c.in-Some-pop.desk
     c.in-Some.ensures.cases.0 c.in-Some-pop.is c.pop.ensures.taken c.requires.labelled).sink ∙ ap (λ pair. pair.output) (sym c.of-pair.ensures)
 
-pub take_back-requires : goal.take_back-requires
-take_back-requires g _ c κs within = (
+pub take_back-earlier-requires : goal.take_back-earlier-requires
+take_back-earlier-requires g _ c κs within = (
   search rules,
   (
     search rules,
@@ -48,7 +47,7 @@ returns-in-Some-pop-clause-desks g _ c =
     let items = c.args.waiting.now.items in
     let desk = c.in-Some-pop.desk in
     let front = desks_at g.S.Source.left g.S.Source.faults g.K.Sink.taken g.K.Sink.faults (map pair_of c.in-Some.rest.now) (all_desks c.pop.new.self) in
-    c.take_back.ensures.desks
+    c.take_back-earlier.ensures.desks
     ∙ ap (λ more. front ++ more) (c.push_front_reserved.ensures.items ∙ ap (λ first. first ∷ items) (c.named.ensures ∙ ap (λ pair. desk_at g.S.Source.left g.S.Source.faults g.K.Sink.taken g.K.Sink.faults pair desk) c.of-pair.ensures))
     ∙ back_seen g.S.Source.left g.S.Source.faults g.S.Source.label g.K.Sink.taken g.K.Sink.faults g.K.Sink.label c.args.pairs.now c.in-Some.rest.now c.in-Some.placed.now c.args.rounds.now c.pop.new.self c.pop.result desk
     c.in-Some.ensures.cases.0 c.in-Some-pop.is c.pop.ensures.taken c.requires.labelled items
@@ -57,9 +56,8 @@ pub returns-in-Some-pop-clause-stop : goal.returns-in-Some-pop-clause-stop
 returns-in-Some-pop-clause-stop g _ c =
     let desk = c.in-Some-pop.desk in
     let here = c.stop_at-stop.ensures ∙ ap (λ pair. stop_by pair (length c.args.pairs.now) desk.served) c.of-pair.ensures in
-    ap (option_map outcome_of) c.or.ensures
-    ∙ map_or outcome_of c.take_back.result c.stop_at-stop.result
-    ∙ ap (λ first. option_or first (option_map outcome_of c.stop_at-stop.result)) c.take_back.ensures.stop
-    ∙ ap (λ last. option_or (first_stop 1 (map pair_of c.in-Some.rest.now) (map (λ d. d.served) (all_desks c.pop.new.self))) last) here
+    c.first_or_memory.ensures
+    ∙ ap (λ first. first_or_memory first (option_map outcome_of c.stop_at-stop.result)) c.take_back-earlier.ensures.stop
+    ∙ ap (λ last. first_or_memory (stop_in_rounds 1 (map pair_of c.in-Some.rest.now) (map (λ d. d.served) (all_desks c.pop.new.self))) last) here
     ∙ back_stop g.S.Source.left g.S.Source.faults g.S.Source.label g.K.Sink.taken g.K.Sink.faults g.K.Sink.label c.args.pairs.now c.in-Some.rest.now c.in-Some.placed.now c.args.rounds.now c.pop.new.self c.pop.result desk
     c.in-Some.ensures.cases.0 c.in-Some-pop.is c.pop.ensures.taken c.requires.labelled

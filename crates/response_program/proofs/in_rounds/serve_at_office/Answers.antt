@@ -1,4 +1,4 @@
-use Rattle.std.proofs.Common.{◌≡◌, [], refl, sym, ap, ◌∙◌}
+use Rattle.std.proofs.Common.{ap}
 use Rattle.plan_book.specs.Books.{story_of}
 use Rattle.response_program.proofs.Books.{ground_of}
 use Rattle.response_program.proofs.in_rounds.serve_at_office.Goals as goal

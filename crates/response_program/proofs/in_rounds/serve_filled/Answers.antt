@@ -1,8 +1,8 @@
-use Rattle.std.proofs.Common.{◌≡◌, ◌++◌, List, [], append-nil, sym, ap, subst, ◌∙◌}
+use Rattle.std.proofs.Common.{◌≡◌, ◌++◌, append-nil, sym, ap, subst, ◌∙◌}
 use Rattle.std.specs.Prelude.{map, length, option_map, IfSome}
 use Rattle.byte_lines.specs.Desks.{all_desks}
 use Rattle.program_words.specs.Rounds.{pair_of, rounds_in}
-use Rattle.response_program.specs.Outcomes.{outcome_of, first_stop}
+use Rattle.response_program.specs.Outcomes.{outcome_of}
 use Rattle.response_program.specs.InRounds.{desks_at, AreServedAt, AreServedInRounds}
 use Rattle.response_program.proofs.Seated.{few, labels_after, in_rounds}
 use Rattle.response_program.proofs.in_rounds.serve_filled.Goals as goal

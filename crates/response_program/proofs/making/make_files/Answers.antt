@@ -1,4 +1,4 @@
-use Rattle.std.proofs.Common.{◌≡◌, ◌≢◌, ◌∙◌, sym, subst}
+use Rattle.std.proofs.Common.{◌≢◌, ◌∙◌, sym, subst}
 use Rattle.plan_schema.proofs.Writes.{rose_after, rose_later}
 use Rattle.response_program.specs.Making.{AreApart, HasMadeFiles}
 use Rattle.response_program.specs.Outcomes.{outcome_of}

@@ -1,11 +1,13 @@
-use Rattle.std.proofs.Common.{◌≡◌, ◌≤◌, length, map, string_bytes, sym, ◌∙◌, ap, subst}
+use Rattle.std.proofs.Common.{◌≤◌, length, map, string_bytes, sym, ◌∙◌, ap, subst}
 use Rattle.std.specs.Prelude.{Some}
 use Rattle.program_words.specs.declared.rounds.TheConstants.{PAIR_LIMIT}
 use Rattle.response_program.specs.Names.{Names, Differ, names_of}
 use Rattle.response_program.specs.Views.{view}
-use Rattle.response_program.proofs.Asking.{asked_told, asked_make}
-use Rattle.response_program.proofs.NamesApart.{told_differ, make_apart}
+use Rattle.response_program.specs.Replayed.{AreOfReplay, replay_names}
+use Rattle.response_program.proofs.Asking.{asked_told, asked_make, asked_replay}
+use Rattle.response_program.proofs.NamesApart.{told_differ, make_apart, replay_apart}
 use Rattle.response_program.proofs.Makings.{nothing_made}
+use Rattle.response_program.proofs.Replays.{nothing_replayed}
 use Rattle.response_program.proofs.Memory.{no_memory}
 use Rattle.response_program.proofs.run.response.Goals as goal
 
@@ -35,6 +37,13 @@ pub make_told-requires-clause-apart : goal.make_told-requires-clause-apart
 make_told-requires-clause-apart g c =
     make_apart c.in-Some-Make.making.base c.in-Some-Make.making.input (asked_make (map string_bytes c.args.words.now) c.in-Ok.program c.in-Some-Make.making c.in-Ok.ensures.ok (sym (ap Some c.in-Some-Make.field-0-is) ∙ c.in-Some-Make.ensures)).files
 
+pub replay_told-requires : goal.replay_told-requires
+replay_told-requires g c =
+    let replaying = c.in-Some-Replay.replaying in
+    subst AreOfReplay (sym c.of-in-Some-Replay.ensures)
+    (replay_apart replaying.base replaying.journal replaying.input replaying.output
+    (asked_replay (map string_bytes c.args.words.now) c.in-Ok.program replaying c.in-Ok.ensures.ok (sym (ap Some c.in-Some-Replay.field-0-is) ∙ c.in-Some-Replay.ensures)))
+
 -- there was no memory for the words
 pub returns-in-Err-Memory-clause-run : goal.returns-in-Err-Memory-clause-run
 returns-in-Err-Memory-clause-run g c = λ run is. no_memory (view g.H.Shelf.held g.H.Shelf.open_faults g.H.Shelf.read_faults g.H.Shelf.write_faults c.args.shelf.now) (names_of run)
@@ -42,3 +51,7 @@ returns-in-Err-Memory-clause-run g c = λ run is. no_memory (view g.H.Shelf.held
 pub returns-in-Err-Memory-clause-make : goal.returns-in-Err-Memory-clause-make
 returns-in-Err-Memory-clause-make g c =
     λ parts start base input is. nothing_made (view g.H.Shelf.held g.H.Shelf.open_faults g.H.Shelf.read_faults g.H.Shelf.write_faults c.args.shelf.now) parts start base input
+
+pub returns-in-Err-Memory-clause-replay : goal.returns-in-Err-Memory-clause-replay
+returns-in-Err-Memory-clause-replay g c =
+    λ base journal input output is. nothing_replayed (view g.H.Shelf.held g.H.Shelf.open_faults g.H.Shelf.read_faults g.H.Shelf.write_faults c.args.shelf.now) (replay_names base journal input output)

@@ -1,4 +1,4 @@
-use Rattle.std.proofs.Common.{◌≡◌, ◌∙◌, [], length, Err, refl, sym, ap, subst}
+use Rattle.std.proofs.Common.{◌≡◌, ◌∙◌, [], Err, refl, sym, ap, subst}
 use Rattle.std.specs.Prelude.{OnOk, option_map}
 use Rattle.plan_schema.specs.declared.outside.SinkFault.TheVariants as sinks
 use Rattle.plan_schema.specs.Outside.{extended}
@@ -9,11 +9,10 @@ use Rattle.response_program.specs.Views.{view}
 use Rattle.response_program.specs.Names.{files_of}
 use Rattle.response_program.specs.Outcomes.{outcome_of, and_written}
 use Rattle.response_program.specs.Runs.{HasRunOver}
-use Rattle.response_program.specs.InRounds.{HasServedRun}
 use Rattle.response_program.proofs.Chains.{opened, gave_out, both_fell, counted_rose}
 use Rattle.response_program.proofs.Unmade.{unmade}
 use Rattle.response_program.proofs.Books.{own_legal}
-use Rattle.response_program.proofs.Overs.{desk_facts, none_facts, over_desks, over_none, ending_of}
+use Rattle.response_program.proofs.Overs.{desk_facts, none_facts, over_desks, over_none}
 use Rattle.response_program.proofs.run.run_over.Goals as goal
 
 -- the sessions couldn't begin

@@ -1,11 +1,11 @@
-use Rattle.std.proofs.Common.{◌≡◌, ◌∙◌, Err, Some, refl, sym, ap, subst, inl}
+use Rattle.std.proofs.Common.{◌≡◌, ◌∙◌, Err, Some, refl, sym, ap, inl}
 use Rattle.plan_schema.specs.Outside.{extended}
 use Rattle.plan_schema.specs.declared.outside.SinkFault.TheVariants as sinks
 use Rattle.plan_schema.proofs.Writes.{rose_after, rose_later}
 use Rattle.response_program.specs.Views.{view}
 use Rattle.response_program.specs.Outcomes.{outcome_of, and_written, console_line}
 use Rattle.response_program.specs.Names.{files_of, console}
-use Rattle.response_program.proofs.Chains.{opened, gave_out, both_fell, cause_later, cause_after}
+use Rattle.response_program.proofs.Chains.{opened, both_fell, cause_later, cause_after}
 use Rattle.response_program.proofs.Named.{kept_then}
 use Rattle.response_program.proofs.Endings.{written_done, written_long, written_refused, written_of_base, written_opened, written_cause, written_told, written_cut}
 use Rattle.response_program.proofs.Headline.{all_done_over, short_over, too_long_over, made_tells}
@@ -39,13 +39,13 @@ returns g c =
           kept_then (inl (c.make_out.ensures.others name other))
           (kept_then (c.run-ending.ensures.opened failed (written_opened outcome console written failed is) (tells_mid tells c.make_out.ensures.here c.make_out.ensures.others) name) (inl (telling.others name other)));
       done = λ totals is tells.
-          all_done_over console old mid late new c.make_out.ensures.others telling.others names apart.no_console apart.journal_console apart.base_console totals
+          all_done_over console old mid late new c.make_out.ensures.others telling.others making giving names apart.no_console apart.journal_console apart.base_console totals
           (c.run-ending.ensures.done totals (written_done outcome console written totals is).0 (tells_mid tells c.make_out.ensures.here c.make_out.ensures.others));
       limit = λ session is tells.
-          too_long_over console old mid late new c.make_out.ensures.others telling.others names apart.no_console apart.journal_console apart.base_console session
+          too_long_over console old mid late new c.make_out.ensures.others telling.others making giving names apart.no_console apart.journal_console apart.base_console session
           (c.run-ending.ensures.limit session (written_long outcome console written session is) (tells_mid tells c.make_out.ensures.here c.make_out.ensures.others));
       cut = λ cut tells never.
-          short_over console old mid late new c.make_out.ensures.others telling.others names apart.no_console apart.journal_console apart.base_console
+          short_over console old mid late new c.make_out.ensures.others telling.others making giving names apart.no_console apart.journal_console apart.base_console
           (c.run-ending.ensures.cut (written_cut names outcome console written (λ journal other. other refl) cut) (tells_mid tells c.make_out.ensures.here c.make_out.ensures.others)
           (λ rose. never (rose_later _ _ _ (rose_after _ _ _ (making.writes names.journal) rose) (giving.writes names.journal))));
       told = λ never tells opens writes.

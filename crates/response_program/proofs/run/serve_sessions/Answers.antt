@@ -1,5 +1,5 @@
-use Rattle.std.proofs.Common.{◌≡◌, ◌∙◌, map, length, option_map, sym, ap, subst}
-use Rattle.program_words.specs.Rounds.{pair_of, rounds_in}
+use Rattle.std.proofs.Common.{◌∙◌, map, length, option_map, sym, ap, subst}
+use Rattle.program_words.specs.Rounds.{rounds_in}
 use Rattle.response_program.specs.Names.{files_of}
 use Rattle.response_program.specs.Views.{view}
 use Rattle.response_program.specs.Outcomes.{outcome_of}

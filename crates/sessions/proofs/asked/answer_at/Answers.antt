@@ -1,4 +1,4 @@
-use Rattle.std.proofs.Common.{◌≡◌, Some, ap, ◌∙◌, sym}
+use Rattle.std.proofs.Common.{Some, ap, ◌∙◌, sym}
 use Rattle.plan_book.specs.Books.{history}
 use Rattle.command_words.specs.declared.reply.Reply.TheVariants as replies
 use Rattle.sessions.proofs.Exact.{no_memory_for, no_memory_answer}

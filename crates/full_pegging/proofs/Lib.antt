@@ -14,7 +14,8 @@ mod Landing
 mod PlanFacts
 mod Counts
 mod Aiming
-mod Sharing
+mod Counting
+pub mod Sharing
 mod Walked
 mod Following
 mod Named

@@ -16,7 +16,7 @@ use Rattle.plan_schema.specs.declared.key.Record.{Record}
 use Rattle.planning_rules.specs.Trace.{End, same_end}
 use Rattle.full_pegging.specs.declared.share.Share.{Share}
 use Rattle.full_pegging.specs.Following.{shown_share, landed_weight}
-use Rattle.full_pegging.specs.Shares.{share_at, landed_at, shares_at}
+use Rattle.full_pegging.specs.Shares.{share_at, landed_at, shares_by}
 
 abbrev Rows : Type 0
 Rows = List (Key × Record)
@@ -26,16 +26,16 @@ nothing_more [] = refl
 nothing_more (x ∷ xs) = ap (λ ys. x ∷ ys) (nothing_more xs)
 
 -- the shares of more ends
-pub shares_more : (landed : List Share) (ends more : List End) → shares_at landed (ends ++ more) ≡ shares_at landed ends ++ shares_at landed more
-shares_more landed ends more =
-    ap (filter (λ share. nat_lt 0 share.1)) (map-append (λ end. (end, landed_at landed end)) ends more)
-    ∙ filter-append (λ share. nat_lt 0 share.1) (map (λ end. (end, landed_at landed end)) ends) (map (λ end. (end, landed_at landed end)) more)
+pub shares_more : (count : End → ℕ) (ends more : List End) → shares_by count (ends ++ more) ≡ shares_by count ends ++ shares_by count more
+shares_more count ends more =
+    ap (filter (λ share. nat_lt 0 share.1)) (map-append (λ end. (end, count end)) ends more)
+    ∙ filter-append (λ share. nat_lt 0 share.1) (map (λ end. (end, count end)) ends) (map (λ end. (end, count end)) more)
 
 -- the rows up to those that are left have their shares behind those before
-pub record SharedSoFar (end_of : (Key × Record) → Option End) (landed : List Share) (cell rest : List (Key × Record)) (before shares : List (End × ℕ)) : Type 0 where
+pub record SharedSoFar (end_of : (Key × Record) → Option End) (count : End → ℕ) (cell rest : List (Key × Record)) (before shares : List (End × ℕ)) : Type 0 where
   pub done : List (Key × Record)
   pub split : cell ≡ done ++ rest
-  pub shares_are : shares ≡ before ++ shares_at landed (filter_map end_of done)
+  pub shares_are : shares ≡ before ++ shares_by count (filter_map end_of done)
 
 one_end : (o : Option End) → cons_option o [] ≡ option_to_list o
 one_end None = refl
@@ -44,25 +44,29 @@ one_end (Some e) = refl
 one_row : (end_of : (Key × Record) → Option End) (row : Key × Record) → filter_map end_of (row ∷ []) ≡ option_to_list (end_of row)
 one_row end_of row = one_end (end_of row)
 
-module _ (end_of : (Key × Record) → Option End) (landed : List Share) where
-  pub shared_begin : (cell : Rows) (shares : List (End × ℕ)) → SharedSoFar end_of landed cell cell shares shares
+module _ (end_of : (Key × Record) → Option End) (count : End → ℕ) where
+  pub shared_begin : (cell : Rows) (shares : List (End × ℕ)) → SharedSoFar end_of count cell cell shares shares
   shared_begin cell shares = record { done = []; split = refl; shares_are = sym (nothing_more shares) }
 
-  pub shared_next : (cell rest : Rows) (before : List (End × ℕ)) (shares some more : List Share) (row : Key × Record) → SharedSoFar end_of landed cell (row ∷ rest) before (map shown_share shares)
-      → more ≡ shares ++ some → map shown_share some ≡ shares_at landed (option_to_list (end_of row)) → SharedSoFar end_of landed cell rest before (map shown_share more)
+  pub shared_next : (cell rest : Rows) (before : List (End × ℕ)) (shares some more : List Share) (row : Key × Record) → SharedSoFar end_of count cell (row ∷ rest) before (map shown_share shares)
+      → more ≡ shares ++ some → map shown_share some ≡ shares_by count (option_to_list (end_of row)) → SharedSoFar end_of count cell rest before (map shown_share more)
   shared_next cell rest before shares some more row s grown one = record {
     done = s.done ++ row ∷ [];
     split = s.split ∙ sym (append_assoc s.done (row ∷ []) rest);
     shares_are =
         ap (map shown_share) grown ∙ map-append shown_share shares some ∙ (λ i. s.shares_are i ++ one i)
-        ∙ append_assoc before (shares_at landed (filter_map end_of s.done)) (shares_at landed (option_to_list (end_of row)))
-        ∙ ap (λ l. before ++ l) (sym (ap (shares_at landed) (filter_map-append end_of s.done (row ∷ []) ∙ ap (λ e. filter_map end_of s.done ++ e) (one_row end_of row)) ∙ shares_more landed (filter_map end_of s.done) (option_to_list (end_of row))));
+        ∙ append_assoc before (shares_by count (filter_map end_of s.done)) (shares_by count (option_to_list (end_of row)))
+        ∙ ap (λ l. before ++ l) (sym (ap (shares_by count) (filter_map-append end_of s.done (row ∷ []) ∙ ap (λ e. filter_map end_of s.done ++ e) (one_row end_of row)) ∙ shares_more count (filter_map end_of s.done) (option_to_list (end_of row))));
   }
 
-  pub shared_end : (cell : Rows) (before shares : List (End × ℕ)) → SharedSoFar end_of landed cell [] before shares → shares ≡ before ++ shares_at landed (filter_map end_of cell)
+  pub shared_end : (cell : Rows) (before shares : List (End × ℕ)) → SharedSoFar end_of count cell [] before shares → shares ≡ before ++ shares_by count (filter_map end_of cell)
   shared_end cell before shares s =
       let whole : s.done ≡ cell = sym (nothing_more s.done) ∙ sym s.split in
-      s.shares_are ∙ ap (λ (rows : Rows). before ++ shares_at landed (filter_map end_of rows)) whole
+      s.shares_are ∙ ap (λ (rows : Rows). before ++ shares_by count (filter_map end_of rows)) whole
+
+-- counts that are equal tell the same
+pub shares_alike : (f g : End → ℕ) → ((end : End) → f end ≡ g end) → (ends : List End) → shares_by f ends ≡ shares_by g ends
+shares_alike f g h ends = λ i. filter (λ share. nat_lt 0 share.1) (map (λ end. (end, h end i)) ends)
 
 -- what is at an end is what units weigh that count 1 there
 one_share : (end : End) (qty : ℕ) (b : Bool) → cond b qty 0 ≡ qty * cond b 1 0

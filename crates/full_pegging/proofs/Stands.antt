@@ -1,8 +1,6 @@
 -- Units end where a row stands: at a demand of the contents, or as surplus of one of its parts.
 use Rattle.std.proofs.Common.{◌≡◌, ℕ, suc, ◌+◌, ◌*◌, ◌⊎◌, inl, inr, List, [], ◌∷◌, length, refl, sym, subst, arith, Bool, true, false, cond}
 use Rattle.std.proofs.lemmas.Bool.Decides.{nat_tests}
-use Rattle.std.proofs.lemmas.Map.Views.{tells_apart}
-use Rattle.std.proofs.lemmas.Map.Lookups.{exact_bytes}
 use Rattle.std.specs.Prelude.{Option, Some, None, is_some, nat_lt, slice_index}
 use Rattle.std.specs.List.{AllByRecursion, list_all}
 use Rattle.std.specs.Ordering.{is_eq}
@@ -21,6 +19,7 @@ use Rattle.planning_rules.specs.Days.{start_of, counts_on}
 use Rattle.planning_rules.specs.Plan.{Order, Known, plan, plan_within, released, has_outcome, asked_by, asked_by_parents, demand_in, demands_of, demands_on, input_of, known_from, gross_of}
 use Rattle.planning_rules.specs.Pegs.{pegs_from}
 use Rattle.planning_rules.specs.Trace.{End, AtDemand, Surplus, day_ends, ends_within}
+use Rattle.planning_rules.proofs.LevelLaws.{one_name}
 use Rattle.full_pegging.proofs.EachEnd.{Leads, pegs_lead, day_all, units_all}
 use Rattle.full_pegging.proofs.Everywhere.{all_images, all_given, all_weaker}
 
@@ -66,10 +65,6 @@ planned_is_part c n h =
 
 -- each peg is of a row -----------------------------------------------------------------------------------------------------
 
--- names that compare alike are one
-pub same_from : (a b : Name) → name_eq a b ≡ true → a ≡ b
-same_from a b h = tells_apart exact_bytes a b h
-
 demand_has : (c : Contents) (n : Name) (row : Key × Record) (order : Order) → HasKey c row.0 → demand_in n row ≡ Some order → HasKey c (keys.Demand n order.name)
 demand_has c n (keys.Demand part name, records.Demand day qty) order has e = by_cases (name_eq part n) refl e
   where
@@ -79,7 +74,7 @@ demand_has c n (keys.Demand part name, records.Demand day qty) order has e = by_
     by_cases : (b : Bool) → name_eq part n ≡ b → cond b (Some made) None ≡ Some order → HasKey c (keys.Demand n order.name)
     by_cases true same is =
         let one : made ≡ order = cc in
-        subst (λ (o : Order). HasKey c (keys.Demand n o.name)) one (subst (λ (p : Name). HasKey c (keys.Demand p name)) (same_from part n same) has)
+        subst (λ (o : Order). HasKey c (keys.Demand n o.name)) one (subst (λ (p : Name). HasKey c (keys.Demand p name)) (one_name part n same) has)
     by_cases false same is = absurd (let never : ⊥ = cc in never)
 demand_has c n _ order has e = absurd (let never : ⊥ = cc in never)
 

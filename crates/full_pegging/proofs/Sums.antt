@@ -18,7 +18,8 @@ use Rattle.planning_rules.proofs.LevelLaws.{same_name}
 use Rattle.planning_rules.proofs.PlanLaws.{both_true}
 use Rattle.planning_rules.specs.Trace.{End, AtDemand, Surplus, same_end, demand_end, surplus_end, shares}
 use Rattle.full_pegging.specs.Laws.{total_share}
-use Rattle.full_pegging.proofs.Stands.{HasKey, Stands, AllStand, same_from}
+use Rattle.planning_rules.proofs.LevelLaws.{one_name}
+use Rattle.full_pegging.proofs.Stands.{HasKey, Stands, AllStand}
 
 -- 1 for what passes a test
 abbrev one_if : Bool → ℕ
@@ -80,7 +81,7 @@ demand_others : (part order : Name) (row : Key × Record) → (hit (AtDemand par
 demand_others part order (keys.Demand other name, value) = by_cases (name_eq other part) (name_eq name order) refl refl
   where
     by_cases : (a b : Bool) → name_eq other part ≡ a → name_eq name order ≡ b → (one_if (a && b) ≡ 0) ⊎ (keys.Demand other name ≡ keys.Demand part order)
-    by_cases true true e d = inr (λ i. keys.Demand (same_from other part e i) (same_from name order d i))
+    by_cases true true e d = inr (λ i. keys.Demand (one_name other part e i) (one_name name order d i))
     by_cases true false e d = inl refl
     by_cases false b e d = inl refl
 demand_others part order _ = inl refl
@@ -92,7 +93,7 @@ surplus_others : (part : Name) (row : Key × Record) → (hit (Surplus part) (su
 surplus_others part (keys.Part other, value) = by_cases (name_eq other part) refl
   where
     by_cases : (a : Bool) → name_eq other part ≡ a → (one_if a ≡ 0) ⊎ (keys.Part other ≡ keys.Part part)
-    by_cases true e = inr (ap keys.Part (same_from other part e))
+    by_cases true e = inr (ap keys.Part (one_name other part e))
     by_cases false e = inl refl
 surplus_others part _ = inl refl
 

@@ -18,7 +18,7 @@ use Rattle.plan_walk.proofs.Ordered.{in_at}
 use Rattle.full_pegging.specs.declared.share.Share.{Share}
 use Rattle.full_pegging.specs.Ends.{unit_end, ends_by}
 use Rattle.full_pegging.specs.Following.{landed_weight}
-use Rattle.full_pegging.specs.Shares.{shares_at}
+use Rattle.full_pegging.specs.Shares.{landed_at, shares_by}
 use Rattle.full_pegging.specs.Walking.{IsTraced}
 use Rattle.full_pegging.proofs.Aiming.{small_sum}
 use Rattle.full_pegging.proofs.ByDays.{day_has}
@@ -87,7 +87,7 @@ module _ (w : View) (n : Name) (traced : IsTraced w (n ∷ [])) where
 
 -- the shares of what has landed are those of the units
 pub all_shares : (landed : List Share) (units ends : List End) → ((measure : End → ℕ) → landed_weight measure landed ≡ sum_by measure units)
-    → shares_at landed ends ≡ filter (λ share. nat_lt 0 share.1) (map (λ end. (end, count_by (same_end end) units)) ends)
+    → shares_by (landed_at landed) ends ≡ filter (λ share. nat_lt 0 share.1) (map (λ end. (end, count_by (same_end end) units)) ends)
 all_shares landed units ends are = λ i. filter (λ share. nat_lt 0 share.1) (map (λ end. (end, (landed_counts landed end ∙ are (λ unit. cond (same_end end unit) 1 0)) i)) ends)
 
 at_most_one : (b : Bool) → cond b 1 0 ≤ 1

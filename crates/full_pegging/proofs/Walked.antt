@@ -34,7 +34,8 @@ use Rattle.full_pegging.specs.declared.target.Target.TheVariants as targets
 use Rattle.full_pegging.specs.Ends.{IsTarget, AreTargets, pegs_on, pegs_of}
 use Rattle.full_pegging.specs.Following.{CanFollow}
 use Rattle.full_pegging.proofs.Everywhere.{all_mapped, all_flat, all_weaker}
-use Rattle.full_pegging.proofs.Stands.{HasKey, same_from}
+use Rattle.planning_rules.proofs.LevelLaws.{one_name}
+use Rattle.full_pegging.proofs.Stands.{HasKey}
 use Rattle.full_pegging.proofs.Aiming.{OfParent, of_parents}
 
 -- names by their places ---------------------------------------------------------------------------------------------------------
@@ -63,7 +64,7 @@ bill_row n (keys.Bill p m, rows.Bill per span) = by_cases (name_eq m n) refl
     made = record { parent = p; per = per; span = span }
 
     by_cases : (b : Bool) → name_eq m n ≡ b → (cond b (Some made) None ≡ None) ⊎ ((bill : ParentBill) × (cond b (Some made) None ≡ Some bill) × (keys.Bill p m ≡ keys.Bill bill.parent n))
-    by_cases true e = inr (made, refl, λ i. keys.Bill p (same_from m n e i))
+    by_cases true e = inr (made, refl, λ i. keys.Bill p (one_name m n e i))
     by_cases false e = inl refl
 bill_row n _ = inl refl
 

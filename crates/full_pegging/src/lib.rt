@@ -3,6 +3,7 @@
 #![tactic(auto)]
 
 mod aims;
+mod at_ends;
 mod cutting;
 mod follow;
 mod laws;

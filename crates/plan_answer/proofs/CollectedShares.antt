@@ -1,8 +1,8 @@
 -- What planned units are for is told from collected cells as from all contents: they end at parts in reach, whose rows were collected.
-use Rattle.std.proofs.Common.{◌≡◌, ℕ, List, [], ◌∷◌, ◌++◌, map, refl, sym, ◌∙◌, ap, subst, Bool, true, false, cond, ◌+◌, arith}
+use Rattle.std.proofs.Common.{◌≡◌, ℕ, List, [], ◌∷◌, ◌++◌, refl, sym, ◌∙◌, ap, subst, Bool, true, false, cond, ◌+◌, arith}
 use Rattle.std.proofs.lemmas.Bool.{and_parts}
 use Rattle.std.proofs.lemmas.List.Sums.{sum_by-cons}
-use Rattle.std.specs.Prelude.{Option, Some, None, filter, nat_lt, count_by}
+use Rattle.std.specs.Prelude.{Option, Some, None, nat_lt, count_by}
 use Rattle.std.specs.List.{AllByRecursion, cons_option, filter_map, list_all}
 use Rattle.plan_schema.specs.declared.name.Name.{Name}
 use Rattle.plan_schema.specs.declared.key.Key.{Key}
@@ -17,22 +17,15 @@ use Rattle.planning_rules.specs.Trace.{End, AtDemand, Surplus, same_end, demand_
 use Rattle.planning_rules.proofs.LevelLaws.{one_name}
 use Rattle.walk_rules.specs.Cells.{Cells, records, are_own_cells}
 use Rattle.plan_jobs.specs.Jobs.{are_ascending}
+use Rattle.full_pegging.specs.Shares.{shares_by}
+use Rattle.full_pegging.proofs.Sharing.{shares_more}
 use Rattle.full_pegging.proofs.SameEnds.{IsAtSome, days_alike, days_within}
 use Rattle.plan_answer.proofs.KeptRows.{RiseByCell, kept_rows, kept_same}
 use Rattle.plan_answer.proofs.CollectedParts.{less_then}
 
 -- how many of some units end where, where any do
 abbrev counted : List End → List End → List (End × ℕ)
-counted units ends = filter (λ share. nat_lt 0 share.1) (map (λ end. (end, count_by (same_end end) units)) ends)
-
-counted_more : (units ends more : List End) → counted units (ends ++ more) ≡ counted units ends ++ counted units more
-counted_more units [] more = refl
-counted_more units (end ∷ ends) more = by_some (counted_more units ends more) (nat_lt 0 (count_by (same_end end) units))
-  where
-    by_some : counted units (ends ++ more) ≡ counted units ends ++ counted units more → (b : Bool)
-        → cond b ((end, count_by (same_end end) units) ∷ counted units (ends ++ more)) (counted units (ends ++ more)) ≡ cond b ((end, count_by (same_end end) units) ∷ counted units ends) (counted units ends) ++ counted units more
-    by_some rest true = ap (λ shares. (end, count_by (same_end end) units) ∷ shares) rest
-    by_some rest false = rest
+counted units ends = shares_by (λ end. count_by (same_end end) units) ends
 
 -- some units end at an end, if it is one
 abbrev has_units : List End → Option End → Bool
@@ -124,9 +117,9 @@ module _ (c : Contents) (cells : Cells) (ordered : is_ordered c ≡ true) (ascen
 
     shares_same : shares (records cells) units ≡ shares c units
     shares_same =
-        counted_more units (filter_map demand_end (records cells)) (filter_map surplus_end (records cells))
+        shares_more (λ end. count_by (same_end end) units) (filter_map demand_end (records cells)) (filter_map surplus_end (records cells))
         ∙ (λ i. demands i ++ surplus i)
-        ∙ sym (counted_more units (filter_map demand_end c) (filter_map surplus_end c))
+        ∙ sym (shares_more (λ end. count_by (same_end end) units) (filter_map demand_end c) (filter_map surplus_end c))
       where
         demands : counted units (filter_map demand_end (records cells)) ≡ counted units (filter_map demand_end c)
         demands =

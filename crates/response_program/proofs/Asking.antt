@@ -1,5 +1,6 @@
 -- What the words ask for.
-use Rattle.std.proofs.Common.{◌≡◌, ◌∙◌, ℕ, List, Option, Some, ap, sym, true}
+use Rattle.std.proofs.Common.{◌≡◌, ◌∙◌, ℕ, ◌≤◌, List, Bool, true, false, Option, Some, None, map, ap, sym, if◌then◌else◌}
+use Rattle.plan_schema.specs.declared.limits.TheConstants.{PART_LIMIT}
 use Rattle.program_words.specs.declared.program.Program.{Program}
 use Rattle.program_words.specs.declared.program.Program.TheVariants as program
 use Rattle.program_words.specs.declared.program.Still.TheVariants as still
@@ -53,7 +54,15 @@ is_replaying (program.Still (still.Replay base journal input output)) replaying 
 is_replaying (program.Still (still.Make parts start base input)) replaying h = cc
 is_replaying (program.Still (still.Trial parts start)) replaying h = cc
 
--- what the words tell of a run that is served, of a making, and of a replay
+is_trial : (words : Program) (parts start : ℕ) → Some (asked.Trial parts start) ≡ served_by words → words ≡ program.Still (still.Trial parts start)
+is_trial (program.Run other) parts start h = cc
+is_trial (program.Keep other) parts start h = cc
+is_trial (program.Still (still.Audit base journal rounds)) parts start h = cc
+is_trial (program.Still (still.Replay base journal input output)) parts start h = cc
+is_trial (program.Still (still.Make count from base input)) parts start h = cc
+is_trial (program.Still (still.Trial count from)) parts start h = cc
+
+-- what the words tell of a run that is served, of a making, of a replay, and of a trial
 pub asked_told : (words : List (List ℕ)) (found : Program) (run : RunWords) → program_of words ≡ Some found → Some (asked.Run run) ≡ served_by found → IsTold run
 asked_told words found run is by = told words run (is ∙ ap Some (is_run found run by))
 
@@ -64,6 +73,9 @@ pub asked_replay : (words : List (List ℕ)) (found : Program) (replaying : Repl
     → is_replay replaying.base replaying.journal replaying.input replaying.output ≡ true
 asked_replay words found replaying is by =
     told_still words (still.Replay replaying.base replaying.journal replaying.input replaying.output) (is ∙ ap Some (is_replaying found replaying by))
+
+pub asked_trial : (words : List (List ℕ)) (found : Program) (parts start : ℕ) → program_of words ≡ Some found → Some (asked.Trial parts start) ≡ served_by found → (1 ≤ parts) × (parts ≤ PART_LIMIT)
+asked_trial words found parts start is by = told_still words (still.Trial parts start) (is ∙ ap Some (is_trial found parts start by))
 
 -- what is served of words is what they ask for
 pub asked_is : (all : Option Program) (found : Program) (what other : Option Asked) → all ≡ Some found → what ≡ served_by found → served all ≡ other → what ≡ other

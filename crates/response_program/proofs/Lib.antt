@@ -27,3 +27,5 @@ pub mod Unmade
 pub mod Makings
 pub mod Shown
 pub mod Replays
+pub mod Entered
+pub mod Trials

@@ -38,7 +38,7 @@ use Rattle.response_program.proofs.Whole.{bytes_in}
 
 -- replies that change nothing ------------------------------------------------------------------------------------------------
 
-no_more : (n : ℕ) → n + 0 ≡ n
+pub no_more : (n : ℕ) → n + 0 ≡ n
 no_more n = omega arith
 
 module _ (contents : Contents) (entries : List Entry) (session floor : ℕ) where

@@ -8,6 +8,7 @@ pub mod Desks
 pub mod InRounds
 pub mod Runs
 pub mod Replayed
+pub mod Tried
 pub mod Responses
 pub use Rattle.plan_schema.specs.Outside
 pub use Rattle.plan_schema.specs.Base

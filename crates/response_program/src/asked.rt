@@ -15,6 +15,8 @@ pub enum Asked<'a> {
     Make(Making<'a>),
     /// A session behind a journal.
     Replay(Replaying<'a>),
+    /// A base and an input of so many parts from a start, served without files.
+    Trial(u32, u64),
 }
 
 impl<'a> Asked<'a> {
@@ -47,6 +49,7 @@ impl<'a> Asked<'a> {
                     input,
                     output,
                 })),
+                Still::Trial { parts, start } => Some(Asked::Trial(parts, start)),
                 _other => None,
             },
             Program::Keep(_keep) => None,

@@ -11,5 +11,6 @@ mod in_rounds;
 mod making;
 mod replay;
 mod run;
+mod trial;
 
 pub use run::response;

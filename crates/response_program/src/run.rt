@@ -18,6 +18,7 @@ ghost use Rattle.program_words.specs.declared.program.Program.TheVariants as pro
 ghost use Rattle.program_words.specs.declared.program.Still.TheVariants as still;
 ghost use Rattle.response_program.specs.Making.{HasMade};
 ghost use Rattle.response_program.specs.Replayed.{HasReplayed, replay_names};
+ghost use Rattle.response_program.specs.Tried.{HasTried};
 ghost use Rattle.response_program.specs.Responses.{HasResponded, HasRefused};
 
 use crate::asked::Asked;
@@ -28,6 +29,7 @@ use crate::files::RunFiles;
 use crate::in_rounds::{Ran, serve_in_rounds};
 use crate::making::make_told;
 use crate::replay::{ReplayFiles, replay_told};
+use crate::trial::trial_told;
 use byte_lines::{Shelf, ShelfFault, SinkFault, write_all};
 use plan_book::{Book, PlanBook};
 use plan_import::import;
@@ -73,6 +75,10 @@ where
         → HasReplayed (view H.held H.open_faults H.read_faults H.write_faults shelf.old)
         (view H.held H.open_faults H.read_faults H.write_faults shelf.new)
         (replay_names base journal input output) result }
+    ensures trial { (parts start : ℕ) → program_of (map string_bytes words.now)
+        ≡ Some (program.Still (still.Trial parts start))
+        → HasTried (view H.held H.open_faults H.read_faults H.write_faults shelf.old)
+        (view H.held H.open_faults H.read_faults H.write_faults shelf.new) parts start result }
     ensures words { served (program_of (map string_bytes words.now)) ≡ None
         → HasRefused (view H.held H.open_faults H.read_faults H.write_faults shelf.old)
         (view H.held H.open_faults H.read_faults H.write_faults shelf.new) result }
@@ -84,6 +90,7 @@ where
             Some(Asked::Replay(replaying)) => {
                 replay_told(alloc, &ReplayFiles::of(&replaying), shelf)
             }
+            Some(Asked::Trial(parts, start)) => trial_told(alloc, parts, start, shelf),
             None => refuse(shelf),
         },
         Err(WordFault::Words) => refuse(shelf),

@@ -10,7 +10,7 @@ use Rattle.walk_rules.specs.Cells.{Cells, records}
 use Rattle.walk_rules.specs.Walks.{names_of}
 use Rattle.full_pegging.specs.Ends.{ends_by}
 use Rattle.full_pegging.specs.Following.{landed_weight, shown_share, waiting_weight}
-use Rattle.full_pegging.specs.Shares.{shares_at}
+use Rattle.full_pegging.specs.Shares.{landed_at, shares_by}
 use Rattle.full_pegging.proofs.Named.{place_low}
 use Rattle.full_pegging.proofs.Sharing.{landed_counts}
 use Rattle.full_pegging.proofs.TraceEnds.{part_there, whole_plan, first_few, lands, lands_few, all_shares, hits_once, long_names}
@@ -109,6 +109,6 @@ returns c =
     let units = day_ends (ends_of contents) (plan contents) contents n c.args.at in
     let cells = c.as_slice-2.ensures.cells ∙ ap (λ (job : Job). job.cells) c.job-job.ensures in
     subst (λ (list : List (End × ℕ)). IfOk c.shares_in.result (λ shares. map shown_share shares.items ≡ list))
-    (ap (λ (cs : Cells). shares_at landed (filter_map demand_end (records cs) ++ filter_map surplus_end (records cs))) cells
+    (ap (λ (cs : Cells). shares_by (landed_at landed) (filter_map demand_end (records cs) ++ filter_map surplus_end (records cs))) cells
     ∙ all_shares landed units (filter_map demand_end contents ++ filter_map surplus_end contents) final)
     c.shares_in.ensures

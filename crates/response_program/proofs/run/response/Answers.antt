@@ -4,10 +4,11 @@ use Rattle.program_words.specs.declared.rounds.TheConstants.{PAIR_LIMIT}
 use Rattle.response_program.specs.Names.{Names, Differ, names_of}
 use Rattle.response_program.specs.Views.{view}
 use Rattle.response_program.specs.Replayed.{AreOfReplay, replay_names}
-use Rattle.response_program.proofs.Asking.{asked_told, asked_make, asked_replay}
+use Rattle.response_program.proofs.Asking.{asked_told, asked_make, asked_replay, asked_trial}
 use Rattle.response_program.proofs.NamesApart.{told_differ, make_apart, replay_apart}
 use Rattle.response_program.proofs.Makings.{nothing_made}
 use Rattle.response_program.proofs.Replays.{nothing_replayed}
+use Rattle.response_program.proofs.Trials.{nothing_tried}
 use Rattle.response_program.proofs.Memory.{no_memory}
 use Rattle.response_program.proofs.run.response.Goals as goal
 
@@ -44,6 +45,12 @@ replay_told-requires g c =
     (replay_apart replaying.base replaying.journal replaying.input replaying.output
     (asked_replay (map string_bytes c.args.words.now) c.in-Ok.program replaying c.in-Ok.ensures.ok (sym (ap Some c.in-Some-Replay.field-0-is) ∙ c.in-Some-Replay.ensures)))
 
+pub trial_told-requires-clause-some : goal.trial_told-requires-clause-some
+trial_told-requires-clause-some g c = (asked_trial (map string_bytes c.args.words.now) c.in-Ok.program c.in-Some-Trial.parts c.in-Some-Trial.start c.in-Ok.ensures.ok (sym (ap Some c.in-Some-Trial.field-0-is) ∙ c.in-Some-Trial.ensures)).0
+
+pub trial_told-requires-clause-few : goal.trial_told-requires-clause-few
+trial_told-requires-clause-few g c = (asked_trial (map string_bytes c.args.words.now) c.in-Ok.program c.in-Some-Trial.parts c.in-Some-Trial.start c.in-Ok.ensures.ok (sym (ap Some c.in-Some-Trial.field-0-is) ∙ c.in-Some-Trial.ensures)).1
+
 -- there was no memory for the words
 pub returns-in-Err-Memory-clause-run : goal.returns-in-Err-Memory-clause-run
 returns-in-Err-Memory-clause-run g c = λ run is. no_memory (view g.H.Shelf.held g.H.Shelf.open_faults g.H.Shelf.read_faults g.H.Shelf.write_faults c.args.shelf.now) (names_of run)
@@ -55,3 +62,7 @@ returns-in-Err-Memory-clause-make g c =
 pub returns-in-Err-Memory-clause-replay : goal.returns-in-Err-Memory-clause-replay
 returns-in-Err-Memory-clause-replay g c =
     λ base journal input output is. nothing_replayed (view g.H.Shelf.held g.H.Shelf.open_faults g.H.Shelf.read_faults g.H.Shelf.write_faults c.args.shelf.now) (replay_names base journal input output)
+
+pub returns-in-Err-Memory-clause-trial : goal.returns-in-Err-Memory-clause-trial
+returns-in-Err-Memory-clause-trial g c =
+    λ parts start is. nothing_tried (view g.H.Shelf.held g.H.Shelf.open_faults g.H.Shelf.read_faults g.H.Shelf.write_faults c.args.shelf.now) parts start

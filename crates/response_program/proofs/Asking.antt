@@ -1,5 +1,5 @@
 -- What the words ask for.
-use Rattle.std.proofs.Common.{◌≡◌, ◌∙◌, ℕ, ◌≤◌, List, Bool, true, false, Option, Some, None, map, ap, sym, if◌then◌else◌}
+use Rattle.std.proofs.Common.{◌≡◌, ◌∙◌, ℕ, ◌≤◌, List, true, Option, Some, ap, sym}
 use Rattle.plan_schema.specs.declared.limits.TheConstants.{PART_LIMIT}
 use Rattle.program_words.specs.declared.program.Program.{Program}
 use Rattle.program_words.specs.declared.program.Program.TheVariants as program

@@ -1,5 +1,5 @@
 -- A replay: what its files hold, and what the console adds.
-use Rattle.std.proofs.Common.{◌≡◌, ◌≢◌, ℕ, ◌+◌, List, [], Option, Some, Result, Ok, Err, refl, sym, ap, subst, ◌∙◌, inl, inr}
+use Rattle.std.proofs.Common.{◌≡◌, ◌≢◌, ℕ, List, [], Option, Some, Result, Ok, Err, refl, sym, ap, subst, ◌∙◌, inl, inr}
 use Rattle.std.specs.Prelude.{◌⊎◌, IsSome}
 use Rattle.plan_schema.specs.declared.change.Entry.{Entry}
 use Rattle.plan_schema.specs.declared.outside.SinkFault.{SinkFault}
@@ -14,13 +14,11 @@ use Rattle.plan_import.specs.declared.ImportFault.TheVariants as imports
 use Rattle.plan_import.specs.BaseFile.{base_of}
 use Rattle.plan_journal.specs.declared.fault.JournalFault.{JournalFault}
 use Rattle.plan_journal.specs.declared.fault.JournalFault.TheVariants as journals
-use Rattle.plan_journal.specs.Laws.{IsTextOf}
 use Rattle.plan_journal.specs.Reading.{journal_read}
 use Rattle.plan_journal.proofs.JournalLaws.{read_alone}
 use Rattle.scenario_rules.specs.Journal.{IsLegal}
 use Rattle.sessions.specs.Serving.{IsWhole, IsShort}
 use Rattle.response_program.specs.declared.ending.Totals.{Totals}
-use Rattle.response_program.specs.declared.ending.BadJournal.{BadJournal}
 use Rattle.response_program.specs.declared.ending.BadJournal.TheVariants as bad_journals
 use Rattle.response_program.specs.Names.{Pair, console}
 use Rattle.response_program.specs.Views.{View, NoneFell}
@@ -28,7 +26,7 @@ use Rattle.response_program.specs.Outcomes.{Outcome, Done, Made, Tried, OfJourna
 use Rattle.response_program.specs.Desks.{IsUnopened, IsOpening}
 use Rattle.response_program.specs.Runs.{Tells}
 use Rattle.response_program.specs.Console.{HasTold}
-use Rattle.response_program.specs.Replayed.{ReplayNames, AreOfReplay, IsOfPair, AreUnchanging, IsSeen, IsSeenShort, Shows, HasShown, HoldsBase, HoldsNoBase, HoldsJournal, IsBad, HoldsBadJournal, IsRefusedAt, IsStopped, HasStopped, HasGoneOn, HasReplayedFiles, HasReplayed}
+use Rattle.response_program.specs.Replayed.{ReplayNames, AreOfReplay, IsOfPair, AreUnchanging, IsSeen, IsSeenShort, Shows, HasShown, HoldsBase, HoldsJournal, IsRefusedAt, IsStopped, HasStopped, HasGoneOn, HasReplayedFiles, HasReplayed}
 use Rattle.response_program.proofs.Chains.{same_fell, both_fell, cause_later, cause_after}
 use Rattle.response_program.proofs.Endings.{written_cause, written_told}
 use Rattle.response_program.proofs.Headline.{made_tells}

@@ -1,5 +1,5 @@
 -- A session behind a journal: what it answers, and what its files hold.
-use Rattle.std.proofs.Common.{◌≡◌, ℕ, ◌+◌, List, [], ◌∷◌, ◌++◌, length, Option, Some, false, true, refl, sym, ap, subst, ◌∙◌, arith, append-nil, inl, inr}
+use Rattle.std.proofs.Common.{◌≡◌, ℕ, ◌+◌, List, [], ◌∷◌, ◌++◌, length, Option, Some, false, true, refl, sym, ap, subst, ◌∙◌, arith, append-nil, inl}
 use Rattle.std.specs.Prelude.{unwrap_or, is_some}
 use Rattle.std.specs.List.{AllByRecursion}
 use Rattle.plan_schema.specs.declared.name.Name.{Name}
@@ -13,7 +13,6 @@ use Rattle.command_words.specs.declared.reply.Reply.TheVariants as replies
 use Rattle.plan_core.specs.State.{State}
 use Rattle.plan_core.specs.Holds.{HoldsFor}
 use Rattle.plan_core.specs.Behind.{HasEntered}
-use Rattle.plan_book.specs.declared.ground.Ground.{Ground}
 use Rattle.plan_book.specs.Books.{history, story_of}
 use Rattle.plan_book.proofs.Told.{entries_back, seen, state_back}
 use Rattle.scenario_rules.specs.Journal.{IsLegal}
@@ -24,10 +23,9 @@ use Rattle.sessions.specs.Serving.{IsWhole, IsShort, HasEnded, HasAnswered, Serv
 use Rattle.response_program.specs.declared.ending.Totals.{Totals}
 use Rattle.response_program.specs.Names.{Pair}
 use Rattle.response_program.specs.Views.{View}
-use Rattle.response_program.specs.Outcomes.{Outcome, Done, NoMemory, NotRead, NotWritten, TooLong, HasCause, stop_of}
+use Rattle.response_program.specs.Outcomes.{Outcome, Done, NotRead, NotWritten, HasCause, stop_of}
 use Rattle.response_program.specs.Desks as desks
 use Rattle.response_program.specs.Desks.{DeskView, IsOpened, IsGivenBack, AreGivenBack}
-use Rattle.response_program.specs.Runs.{Tells}
 use Rattle.response_program.specs.Replayed.{AreUnchanging, IsSeen, IsSeenShort, Shows, HasShown}
 use Rattle.response_program.proofs.Books.{ground_of}
 use Rattle.response_program.proofs.Chains.{both_fell, cause_after}

@@ -1,6 +1,7 @@
 //! A case as it is read, and its run.
 use crate::directive::Directive;
 use crate::report::{show, show_text};
+use crate::traces::report_traces;
 use byte_lines::{Calls, MemoryShelf, NamedCalls};
 use plan_schema::Series;
 use response_program::response;
@@ -30,6 +31,8 @@ pub struct Case {
     /// The reads and writes that fail, by file.
     calls: NamedCalls,
     shown: Vec<String>,
+    /// How many parts a base has whose planned receipts are traced, and the start that it is made from.
+    traced: Option<(String, String)>,
     /// Lines that say nothing.
     unknown: Vec<String>,
 }
@@ -45,6 +48,7 @@ impl Case {
             opens: Series::new(alloc),
             calls: NamedCalls::new(alloc),
             shown: Vec::new(alloc),
+            traced: None,
             unknown: Vec::new(alloc),
         }
     }
@@ -70,6 +74,7 @@ impl Case {
             Directive::FailCall(call, name) => self.calls.push(name, call),
             Directive::Show(name) => push_text(&mut self.shown, self.alloc, name),
             Directive::Unknown(line) => push_text(&mut self.unknown, self.alloc, line),
+            Directive::Traces(words) => self.add_traces(words),
             Directive::Case(_) | Directive::Remark => Ok(()),
             bytes => self.add_bytes(bytes),
         }
@@ -78,6 +83,14 @@ impl Case {
     fn add_words(&mut self, words: &str) -> Result<(), AllocError> {
         for word in words.split_whitespace() {
             push_text(&mut self.words, self.alloc, word)?;
+        }
+        Ok(())
+    }
+
+    fn add_traces(&mut self, words: &str) -> Result<(), AllocError> {
+        if let Some((parts, start)) = words.split_once(" ") {
+            let parts = String::from_str(self.alloc, parts)?;
+            self.traced = Some((parts, String::from_str(self.alloc, start)?));
         }
         Ok(())
     }
@@ -105,14 +118,17 @@ impl Case {
         rt: &R,
         report: &mut Vec<u8>,
     ) -> Result<(), AllocError> {
+        if let Some(name) = &self.name {
+            show_text(report, "case", name.as_str())?;
+        }
+        if let Some((parts, start)) = &self.traced {
+            return report_traces(rt, self.alloc, parts.as_str(), start.as_str(), report);
+        }
         let mut shelf = MemoryShelf::new(self.alloc, self.opens, self.calls);
         for file in &self.files {
             shelf.put(file.name.as_str(), file.bytes.as_slice())?;
         }
         let status = response(rt, self.alloc, self.words.as_slice(), &mut shelf);
-        if let Some(name) = &self.name {
-            show_text(report, "case", name.as_str())?;
-        }
         let number = format!(in self.alloc; "{status}")?;
         show_text(report, "status", number.as_str())?;
         show(report, CONSOLE, shelf.held(CONSOLE))?;

@@ -13,6 +13,7 @@
 //! | `byte N` | a byte of the file by its number |
 //! | `fail-open N` | the call of this number, from 1, that opens or makes a file fails |
 //! | `fail-call N NAME` | the read or write of this number, from 1, of the file of this name fails |
+//! | `traces N START` | for each planned receipt of the base that `make N START` gives, its shares are asked for; it is printed how many receipts there are, and to how many of them the shares sum |
 //! | `show NAME` | what the shelf holds under a name is printed, behind the console |
 //! | nothing, or `; TEXT` | a remark |
 
@@ -30,6 +31,7 @@ pub enum Directive<'a> {
     Byte(u8),
     FailOpen(u64),
     FailCall(u64, &'a str),
+    Traces(&'a str),
     Show(&'a str),
     Remark,
     /// A line that says nothing of these. It is printed.
@@ -62,6 +64,7 @@ impl<'a> Directive<'a> {
             "case" => Some(Directive::Case(rest)),
             "words" => Some(Directive::Words(rest)),
             "file" => Some(Directive::File(rest)),
+            "traces" => Some(Directive::Traces(rest)),
             "show" => Some(Directive::Show(rest)),
             "blank" => Some(Directive::Blank(rest.parse::<u64>().ok()?)),
             "byte" => Some(Directive::Byte(rest.parse::<u8>().ok()?)),

@@ -5,6 +5,7 @@
 mod case;
 mod directive;
 mod report;
+mod traces;
 
 use case::Case;
 use directive::Directive;

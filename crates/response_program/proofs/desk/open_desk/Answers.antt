@@ -1,4 +1,4 @@
-use Rattle.std.proofs.Common.{◌≡◌, refl, sym, subst, inl, inr}
+use Rattle.std.proofs.Common.{refl, sym, subst, inl, inr}
 use Rattle.response_program.specs.Names.{pair_of}
 use Rattle.response_program.specs.Replayed.{IsOfPair}
 use Rattle.response_program.proofs.Replays.{of_pair}

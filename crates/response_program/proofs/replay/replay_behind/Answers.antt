@@ -1,6 +1,5 @@
-use Rattle.std.proofs.Common.{◌≡◌, ◌+◌, ◌++◌, arith, sym, ap, subst, refl}
+use Rattle.std.proofs.Common.{◌+◌, arith, ap, subst}
 use Rattle.std.proofs.lemmas.Option.{slice_get_within}
-use Rattle.plan_schema.specs.declared.change.Entry.{Entry}
 use Rattle.plan_schema.specs.Contents.{Contents}
 use Rattle.plan_journal.proofs.JournalLaws.{all_sound}
 use Rattle.plan_core.specs.Behind.{IsFirstRefused, IsNoCore}

@@ -1,4 +1,4 @@
-use Rattle.std.proofs.Common.{◌≡◌, ◌∙◌, Err, ap}
+use Rattle.std.proofs.Common.{◌∙◌, Err, ap}
 use Rattle.response_program.specs.Names.{console}
 use Rattle.response_program.specs.Outcomes.{outcome_of, status_of}
 use Rattle.response_program.specs.Replayed.{replay_of}

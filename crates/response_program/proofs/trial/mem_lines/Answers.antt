@@ -1,4 +1,4 @@
-use Rattle.std.proofs.Common.{◌≡◌, ◌∙◌, rules, tests}
+use Rattle.std.proofs.Common.{◌∙◌, rules, tests}
 use Rattle.std.specs.Prelude.{◌==◌, bytes_eq, codes}
 use Rattle.std.specs.List.{slice_split}
 use Rattle.std.proofs.lemmas.Iterator.Splits.{YieldsList-from_slice_split}

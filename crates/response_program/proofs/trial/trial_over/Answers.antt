@@ -1,4 +1,4 @@
-use Rattle.std.proofs.Common.{◌≡◌, ◌∙◌, Ok, sym, ap}
+use Rattle.std.proofs.Common.{◌∙◌, Ok, sym, ap}
 use Rattle.plan_core.specs.State.{State}
 use Rattle.response_program.proofs.Trials.{tried}
 use Rattle.response_program.proofs.trial.trial_over.Goals as goal

@@ -16,3 +16,10 @@ pub mod LegalRuns
 pub mod Itself
 pub mod SoundReplies
 pub mod SoundRuns
+pub mod Rows
+pub mod Entered
+pub mod Stands
+pub mod Requests
+pub mod Heard
+pub mod Through
+pub mod Points

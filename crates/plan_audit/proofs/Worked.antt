@@ -21,7 +21,7 @@ use Rattle.command_words.specs.Forms.{whole_reply}
 use Rattle.command_words.specs.Replies.{reply_text, head_words, bad_words, refusal_words}
 use Rattle.session_rules.specs.Requests.{requests_within, reading}
 use Rattle.session_rules.specs.Answers.{answer}
-use Rattle.request_loop.specs.Reading.{requests_from, requests_ending}
+use Rattle.request_loop.specs.Reading.{requests_ending}
 use Rattle.request_loop.specs.Serving.{lines_within, is_past_limit}
 use Rattle.plan_audit.specs.declared.verdict.AuditRule.{AuditRule}
 use Rattle.plan_audit.specs.declared.verdict.AuditRule.TheVariants as rules

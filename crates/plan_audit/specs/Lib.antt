@@ -7,4 +7,8 @@ pub mod Causes
 pub mod Ahead
 pub mod Buffers
 pub mod Replies
+pub mod Standing
+pub mod Cases
+pub mod Sessions
+pub mod Rounds
 pub use Rattle.plan_schema.specs.Outside

@@ -1,6 +1,7 @@
 //! The form of a reply, as its first line tells it.
 ghost use Rattle.std.specs.Prelude.{◌≡◌, ◌==◌, ◌<◌, ◌≤◌, length, option_map, position, IfSome};
 ghost use Rattle.command_words.specs.Forms as spec;
+ghost use Rattle.plan_audit.specs.Judging.{point_in};
 ghost use Rattle.plan_audit.specs.Replies.{form_for};
 
 use row_text::{is_word, read_number};
@@ -27,6 +28,19 @@ const MOST_POINT: u64 = 999_999_999_999_999_999;
 const MOST_LINES: u64 = 200_000;
 
 impl ReplyForm {
+    /// The point that the reply prints.
+    pub(crate) fn point(&self) -> Option<u64>
+        ensures { result ≡ point_in (form_for self.now) }
+    {
+        match self {
+            ReplyForm::Done(point) => Some(*point),
+            ReplyForm::Listed(point, _) => Some(*point),
+            ReplyForm::Refused(point) => Some(*point),
+            ReplyForm::Faulty => None,
+            ReplyForm::NoMemory => None,
+        }
+    }
+
     /// How many lines follow the first.
     pub(crate) fn lines(&self) -> u64
         ensures { result ≡ spec.lines_in (form_for self.now) }

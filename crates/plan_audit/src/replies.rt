@@ -1,6 +1,6 @@
 //! The replies of a session, read from its output.
 ghost use Rattle.std.specs.Prelude.{◌≡◌, ◌≢◌, ◌≤◌, ℕ, List, [], Some, IfOk};
-ghost use Rattle.plan_audit.specs.Ahead.{still, LinesTaken};
+ghost use Rattle.plan_audit.specs.Ahead.{still, TellsEnd, LinesTaken};
 ghost use Rattle.plan_audit.specs.Buffers.{ahead_of};
 ghost use Rattle.plan_audit.specs.Replies.{ReplyTaken};
 ghost use Rattle.plan_audit.specs.Causes.{ReplyCause};
@@ -59,6 +59,15 @@ impl Replies {
         ensures { result.now ≡ self.now.text }
     {
         self.text.as_slice()
+    }
+
+    /// Whether there are no more bytes.
+    pub(crate) fn is_at_end<S: Source>(&mut self, source: &mut S) -> Result<bool, ReplyFault>
+        ensures told { IfOk result (λ is_end. TellsEnd is_end
+            (still self.old.ahead (S.left source.old))) }
+        ensures cause { ReplyCause S.faults S.label source.old source.new result }
+    {
+        self.ahead.is_at_end(source)
     }
 
     /// Reads the next reply. Where it isn't in form, the output is good for nothing more.

@@ -16,6 +16,7 @@ pub mod LegalRuns
 pub mod Itself
 pub mod SoundReplies
 pub mod SoundRuns
+pub mod Marks
 pub mod Rows
 pub mod Entered
 pub mod Stands

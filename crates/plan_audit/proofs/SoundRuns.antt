@@ -63,7 +63,7 @@ module _ (base : Contents) (entries : List Entry) where
       → (k : ℕ) → IfSome (slice_get more k) (λ e. refused base ((done ++ entry ∷ []) ++ take k more) e.user e.change ≡ None)
   later_too done entry more h k = subst (λ l. IfSome (slice_get more k) (λ e. refused base l e.user e.change ≡ None)) (sym (append_assoc done (entry ∷ []) (take k more))) (h (suc k))
 
-  unrefused : (done more : List Entry) → ((k : ℕ) → IfSome (slice_get more k) (λ e. refused base (done ++ take k more) e.user e.change ≡ None)) → first_refused base done more ≡ None
+  pub unrefused : (done more : List Entry) → ((k : ℕ) → IfSome (slice_get more k) (λ e. refused base (done ++ take k more) e.user e.change ≡ None)) → first_refused base done more ≡ None
   unfolding first_refused
   unrefused done [] h = refl
   unrefused done (entry ∷ more) h =

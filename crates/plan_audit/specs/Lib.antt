@@ -11,4 +11,5 @@ pub mod Standing
 pub mod Cases
 pub mod Sessions
 pub mod Rounds
+pub mod Audits
 pub use Rattle.plan_schema.specs.Outside

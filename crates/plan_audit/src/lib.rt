@@ -2,10 +2,12 @@
 #![tactic(auto)]
 
 mod ahead;
+mod auditing;
 mod case;
 mod form;
 mod judge;
 mod laws;
+mod lost;
 mod replies;
 mod rounds;
 mod same;
@@ -14,6 +16,7 @@ mod standing;
 mod telling;
 mod verdict;
 
+pub use auditing::{AuditFault, audit};
 pub use case::Case;
 pub use form::ReplyForm;
 pub use laws::{

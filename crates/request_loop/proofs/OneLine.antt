@@ -1,10 +1,11 @@
 -- One line more.
-use Rattle.std.proofs.Common.{◌≡◌, ℕ, ◌+◌, ◌-◌, ◌≤◌, ◌<◌, min, ◌^◌, List, [], ◌∷◌, ◌++◌, length, true, false, cond, Option, Some, None, Ok, Err, refl, sym, ap, subst, ◌∙◌, ◌||◌, arith, append_assoc, append-nil, length-append, inl, inr}
+use Rattle.std.proofs.Common.{◌≡◌, ℕ, ◌+◌, ◌-◌, ◌≤◌, ◌<◌, min, ◌^◌, List, [], ◌∷◌, ◌++◌, length, true, false, cond, Option, None, Result, Ok, Err, refl, sym, ap, subst, ◌∙◌, ◌||◌, arith, append_assoc, append-nil, length-append, inl, inr}
 use Rattle.std.specs.Prelude.{◌⊎◌}
 use Rattle.std.proofs.lemmas.List.{map-append}
 use Rattle.plan_schema.specs.declared.name.Name.{Name}
 use Rattle.plan_schema.specs.declared.change.Change.{Change}
 use Rattle.plan_schema.specs.Outside.{extended, TookFront}
+use Rattle.plan_schema.specs.declared.outside.SinkFault.{SinkFault}
 use Rattle.plan_schema.proofs.Writes.{extended_nil}
 use Rattle.byte_lines.specs.Lines.{lines_of}
 use Rattle.byte_lines.specs.declared.rounds.Served.TheVariants as ends
@@ -12,7 +13,8 @@ use Rattle.command_words.specs.declared.reply.Reply.{Reply}
 use Rattle.command_words.specs.Replies.{reply_text}
 use Rattle.session_rules.specs.Requests.{Wish, Makes, Asks, IsBad, Request, requests_of, user_after, guest}
 use Rattle.request_loop.specs.declared.answers.Why.{Why}
-use Rattle.request_loop.specs.declared.hear.Answer.{Answer}
+use Rattle.request_loop.specs.declared.hear.Heard.{Heard}
+use Rattle.request_loop.specs.declared.hear.Heard.TheVariants as heard
 use Rattle.request_loop.specs.declared.gathering.Gathering.{Gathering}
 use Rattle.request_loop.specs.Exchanges.{Exchange, requests_in, IsQuiet, speaker}
 use Rattle.request_loop.specs.Chains.{IsChain}
@@ -20,7 +22,7 @@ use Rattle.request_loop.specs.Printed.{IsHeld}
 use Rattle.request_loop.specs.Reading.{Rows, is_end, counted_lines, requests_from, requests_ending, whole_requests, left_over}
 use Rattle.request_loop.specs.Gathered.{AreGathered}
 use Rattle.request_loop.specs.Handed.{IsCleared}
-use Rattle.request_loop.specs.Heard.{CompletesNone, Completes, IsHeard, IsPassed, IsLineAnswer, IsUnwritten}
+use Rattle.request_loop.specs.Heard.{CompletesNone, Completes, IsAnswered, IsHeard, IsPassed, IsUnwritten, counted_after}
 use Rattle.request_loop.specs.Serving.{line_limit, is_quit_wish, has_quit, SoFar, HasQuit, IsKeptInside, IsOver, IsServedShort, ServedMore}
 use Rattle.request_loop.specs.declared.hear.Stop.{Stop}
 use Rattle.request_loop.specs.declared.hear.Stop.TheVariants as stop
@@ -29,12 +31,17 @@ use Rattle.request_loop.proofs.Chained.{chain_more}
 use Rattle.request_loop.proofs.FromLeft.{requests_are, one_blank, one_step}
 use Rattle.request_loop.proofs.Limits.{or_false, quit_both, quit_stepped, no_quit_left, asked_in, past_lines}
 
-held_quiet : (before taken mid then : Option (List ℕ)) (page page_mid page_then written : List ℕ) (log : List Exchange) (x : Exchange) → IsHeld before taken page log → IsQuiet (x ∷ [])
+pub held_quiet : (before taken mid then : Option (List ℕ)) (page page_mid page_then written : List ℕ) (log : List Exchange) (x : Exchange) → IsHeld before taken page log → IsQuiet (x ∷ [])
     → then ≡ extended mid written → written ++ page_then ≡ page_mid ++ reply_text x.reply → ((page_mid ≡ []) × (mid ≡ extended taken page)) ⊎ ((page_mid ≡ page) × (mid ≡ taken)) → IsHeld before then page_then (log ++ x ∷ [])
 held_quiet before taken mid then page page_mid page_then written log x h quiet wrote rest (inl (none, all)) =
     one_quiet before mid [] log then page_then written x (none_held before mid log (written_all before taken page log mid h all)) quiet wrote (rest ∙ ap (λ p. p ++ reply_text x.reply) none)
 held_quiet before taken mid then page page_mid page_then written log x h quiet wrote rest (inr (same, still)) =
     one_quiet before taken page log then page_then written x h quiet (wrote ∙ ap (λ t. extended t written) still) (rest ∙ ap (λ p. p ++ reply_text x.reply) same)
+
+-- what is held where the page may have been written
+pub held_cleared : (before taken mid : Option (List ℕ)) (page page_mid : List ℕ) (log : List Exchange) → IsHeld before taken page log → ((page_mid ≡ []) × (mid ≡ extended taken page)) ⊎ ((page_mid ≡ page) × (mid ≡ taken)) → IsHeld before mid page_mid log
+held_cleared before taken mid page page_mid log h (inl (none, all)) = subst (λ p. IsHeld before mid p log) (sym none) (none_held before mid log (written_all before taken page log mid h all))
+held_cleared before taken mid page page_mid log h (inr (same, still)) = subst (λ t. IsHeld before t page_mid log) (sym still) (subst (λ p. IsHeld before taken p log) (sym same) h)
 
 -- what is held with one reply more
 pub held_next : (before taken mid then : Option (List ℕ)) (page page_mid page_then written : List ℕ) (log : List Exchange) (line : ℕ) (wish : Wish) (reply : Reply) → IsHeld before taken page log
@@ -65,6 +72,11 @@ unfolding requests_ending
 none_asked gives stops old now input left lines requests user rows page before taken h =
     let all = ap (λ ls. requests_from (counted_lines 1 ls) None) (sym (append-nil h.read)) ∙ h.rest left_over [] in
     ap has_quit all ∙ quit_both (requests_in h.log) (requests_from (counted_lines (lines + 1) []) h.kept) ∙ (λ i. h.no_quit i || no_quit_left h.kept i)
+
+-- what serving a line comes to
+abbrev pub served_after : Result Heard Stop → Result (Unit {0}) Stop
+served_after (Ok came) = Ok tt
+served_after (Err found) = Err found
 
 module _ {S K : Type 0} (gives : S → Name → Request → Reply → S → Type 0) (stops : S → Name → Request → Why → S → Type 0) (taken : K → Option (List ℕ)) where
   module _ (old now : S) (input : List ℕ) (lines requests : ℕ) (user : Name) (rows : Option Gathering) (page : List ℕ) (before : Option (List ℕ)) (sink : K) (line : Option (List ℕ)) (left : List (Option (List ℕ)))
@@ -157,7 +169,7 @@ module _ {S K : Type 0} (gives : S → Name → Request → Reply → S → Type
               last = now;
               chain = h.chain;
               stopped = subst (λ u. stops now u request why new) h.user_is is_stopped;
-              held = by_either cleared.either;
+              held = held_cleared before (taken sink) (taken sink_then) page page_then h.log h.held cleared.either;
               cleared = λ change is. (cleared.cleared change is).0;
             };
             read = h.read ++ line ∷ [];
@@ -167,10 +179,6 @@ module _ {S K : Type 0} (gives : S → Name → Request → Reply → S → Type
             few = omega (arith, few);
             all = λ more. (behind (λ kept. []) more, with_request (λ kept. []) more);
           }
-        where
-          by_either : ((page_then ≡ []) × (taken sink_then ≡ extended (taken sink) page)) ⊎ ((page_then ≡ page) × (taken sink_then ≡ taken sink)) → IsHeld before (taken sink_then) page_then h.log
-          by_either (inl (none, all)) = subst (λ p. IsHeld before (taken sink_then) p h.log) (sym none) (none_held before (taken sink_then) h.log (written_all before (taken sink) page h.log (taken sink_then) h.held all))
-          by_either (inr (same, still)) = subst (λ t. IsHeld before t page_then h.log) (sym still) (subst (λ p. IsHeld before (taken sink) p h.log) (sym same) h.held)
 
       module _ (new : S) (page_mid : List ℕ) (mid : K) (reply : Reply) (step : gives now user request reply new) (cleared : IsCleared taken sink mid page page_mid request) where
         exchange : Exchange
@@ -267,21 +275,31 @@ module _ {S K : Type 0} (gives : S → Name → Request → Reply → S → Type
           limit = past_lines input h.read (line ∷ left) h.whole (let c = h.counted in omega (arith, c, most)) (omega arith) (none_asked gives stops old now input (line ∷ left) lines requests user rows page before (taken sink) h);
         }
 
-    -- the line came to no answer
-    pub stopped : (new : S) (then : Name) (rows_heard rows_then : Option Gathering) (requests_then : ℕ) (user_then : Name) (page_then : List ℕ) (sink_then : K) (found : Stop) → lines < line_limit
-        → IsHeard gives stops taken now new user then h.kept rows_heard (lines + 1, line) page page_then sink sink_then (Err found) → ServedMore gives stops old new input left (lines + 1) requests_then user_then rows_then page_then before (taken sink_then) (Err found)
-    stopped new then rows_heard rows_then requests_then user_then page_then sink_then (stop.Sink fault) few it = unwritten new sink_then it
-    stopped new then rows_heard rows_then requests_then user_then page_then sink_then (stop.Kept why) few it = kept it.request it.completes new page_then sink_then why few it.stopped it.cleared
-    stopped new then rows_heard rows_then requests_then user_then page_then sink_then stop.Limit few it = absurd it
-    stopped new then rows_heard rows_then requests_then user_then page_then sink_then stop.Quit few it = absurd it
+    -- the sink took no more at the line
+    short_there : (new : S) (page_then : List ℕ) (sink_then : K) (fault : SinkFault) (request : Request) → Completes h.kept (lines + 1, line) request
+        → IsUnwritten gives stops taken now new page sink sink_then ⊎ IsAnswered gives stops taken now new user request page page_then sink sink_then (Err (stop.Sink fault)) → IsServedShort gives stops old new input before (taken sink_then) ends.WriteFault
+    short_there new page_then sink_then fault request done (inl it) = unwritten new sink_then it
+    short_there new page_then sink_then fault request done (inr it) = unprinted request done new it.page_between it.between it.reply it.step it.cleared sink_then it.put
 
--- what came of a line, once it is known
-module _ {S K : Type 0} (gives : S → Name → Request → Reply → S → Type 0) (stops : S → Name → Request → Why → S → Type 0) (taken : K → Option (List ℕ)) (old new : S) (user then : Name) (kept : Option Rows) (rows_then : Option Gathering) (number : ℕ) (shown line : Option (List ℕ)) (same : shown ≡ line) (page page_then : List ℕ) (sink sink_then : K) where
-  pub an_answer : (found : Option Answer) (answer : Answer) → found ≡ Some answer → IsHeard gives stops taken old new user then kept rows_then (number, shown) page page_then sink sink_then (Ok found) → IsLineAnswer gives stops taken old new user then kept rows_then (number, line) page page_then sink sink_then answer
-  an_answer found answer is h = subst (λ l. IsLineAnswer gives stops taken old new user then kept rows_then (number, l) page page_then sink sink_then answer) same (subst (λ f. IsHeard gives stops taken old new user then kept rows_then (number, shown) page page_then sink sink_then (Ok f)) is h)
+    -- what the line came to
+    pub line_heard : (new : S) (then : Name) (rows_then : Option Gathering) (page_then : List ℕ) (sink_then : K) (came : Result Heard Stop) → lines < line_limit → IsHeard gives stops taken now new user then h.kept rows_then (lines + 1, line) page page_then sink sink_then came
+        → ServedMore gives stops old new input left (lines + 1) (counted_after requests came) then rows_then page_then before (taken sink_then) (served_after came)
+    line_heard new then rows_then page_then sink_then (Ok heard.Nothing) few it = passed new then rows_then page_then sink_then few it
+    line_heard new then rows_then page_then sink_then (Ok heard.Answered) few it =
+        let a = it.came.0 in
+        subst (λ n. SoFar gives stops old new input left (lines + 1) n then rows_then page_then before (taken sink_then)) (sym counted)
+        (answered it.request it.completes new a.page_between a.between a.reply a.step a.cleared then rows_then sink_then page_then a.put.0 few it.came.2 it.came.1 it.none_left a.put.1 a.put.2)
+    line_heard new then rows_then page_then sink_then (Err (stop.Sink fault)) few it = short_there new page_then sink_then fault it.request it.completes it.came
+    line_heard new then rows_then page_then sink_then (Err (stop.Kept why)) few it = kept it.request it.completes new page_then sink_then why few it.came.stopped it.came.cleared
+    line_heard new then rows_then page_then sink_then (Err stop.Limit) few it = absurd it.came
+    line_heard new then rows_then page_then sink_then (Err stop.Quit) few it =
+        let a = it.came.0 in
+        subst (λ n. HasQuit gives stops old new input (lines + 1) n page_then before (taken sink_then)) (sym counted)
+        (quits it.request it.completes new a.page_between a.between a.reply a.step a.cleared sink_then page_then a.put.0 few it.came.1 a.put.1 a.put.2)
 
-  pub no_answer : (found : Option Answer) → found ≡ None → IsHeard gives stops taken old new user then kept rows_then (number, shown) page page_then sink sink_then (Ok found) → IsPassed gives stops taken old new user then kept rows_then (number, line) page page_then sink sink_then
-  no_answer found is h = subst (λ l. IsPassed gives stops taken old new user then kept rows_then (number, l) page page_then sink sink_then) same (subst (λ f. IsHeard gives stops taken old new user then kept rows_then (number, shown) page page_then sink sink_then (Ok f)) is h)
-
-  pub a_stop : (found : Stop) → IsHeard gives stops taken old new user then kept rows_then (number, shown) page page_then sink sink_then (Err found) → IsHeard gives stops taken old new user then kept rows_then (number, line) page page_then sink sink_then (Err found)
-  a_stop found h = subst (λ l. IsHeard gives stops taken old new user then kept rows_then (number, l) page page_then sink sink_then (Err found)) same h
+    -- the same of what was shown of it
+    pub shown_heard : (shown : Option (List ℕ)) → shown ≡ line → (new : S) (then : Name) (rows_then : Option Gathering) (page_then : List ℕ) (sink_then : K) (came : Result Heard Stop) → lines < line_limit
+        → IsHeard gives stops taken now new user then h.kept rows_then (lines + 1, shown) page page_then sink sink_then came
+        → ServedMore gives stops old new input left (lines + 1) (counted_after requests came) then rows_then page_then before (taken sink_then) (served_after came)
+    shown_heard shown same new then rows_then page_then sink_then came few it =
+        line_heard new then rows_then page_then sink_then came few (subst (λ l. IsHeard gives stops taken now new user then h.kept rows_then (lines + 1, l) page page_then sink sink_then came) same it)

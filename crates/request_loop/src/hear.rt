@@ -1,6 +1,8 @@
-//! Lines as requests: each request is handed on as soon as it is complete, and what the page holds is written before a change is.
+//! Lines as requests: each request is handed on as soon as it is complete, and its reply is put into the page at once. What the page holds
+//! is written before a change is handed on.
 ghost use Rattle.std.specs.Prelude.{◌≡◌, ◌≤◌, ◌<◌, ℕ, Option, true, false, length, None, Some, Ok, Err};
-ghost use Rattle.std.specs.Prelude.{IfSome, IfOk, IfErr, OnOk, option_map};
+ghost use Rattle.std.specs.Prelude.{IfSome, option_map};
+ghost use Rattle.command_words.specs.Replies.{reply_text};
 ghost use Rattle.command_words.specs.Spelling.{is_sound_command};
 ghost use Rattle.plan_schema.specs.declared.limits.TheConstants.{LINE_LIMIT};
 ghost use Rattle.plan_schema.specs.Sound.{is_sound_change};
@@ -12,12 +14,12 @@ ghost use Rattle.request_loop.specs.Exchanges.{to_make, to_tell};
 ghost use Rattle.request_loop.specs.Reading.{Rows};
 ghost use Rattle.request_loop.specs.Gathered.{IsGathered, AreGathered, AreBegun, ComesTo};
 ghost use Rattle.request_loop.specs.Handed.{WriteCauses};
-ghost use Rattle.request_loop.specs.Heard.{IsTaken, IsHeard, IsFaultHeard};
+ghost use Rattle.request_loop.specs.Heard.{HasPut, IsTaken, HasCome, IsHeard, heard_of};
 
 use crate::answers::{Answers, Why};
 use crate::gathering::{Gathered, Gathering};
 use byte_lines::{Sink, SinkFault};
-use command_words::{Bad, Command, Page, Reply, flush, is_blank, read_line};
+use command_words::{Bad, Command, Page, Reply, flush, is_blank, put_reply, read_line};
 use plan_schema::{Change, Name};
 use std::alloc::Global;
 
@@ -34,28 +36,16 @@ pub(crate) enum Stop {
     Quit,
 }
 
-/// What a request is answered.
-#[derive(Drop)]
-pub(crate) struct Answer {
-    pub(crate) reply: Reply,
-    /// Whether the session ends with it.
-    pub(crate) is_last: bool,
+/// What a line comes to, where more lines are heard.
+#[derive(Clone, Copy)]
+pub(crate) enum Heard {
+    /// It completes no request.
+    Nothing,
+    /// The request that it completes was answered, and the page took the reply.
+    Answered,
 }
 
-impl Answer {
-    /// A reply behind which the session goes on.
-    fn going_on(reply: Reply) -> Answer
-        ensures reply { result.reply ≡ reply }
-        ensures last { result.is_last ≡ false }
-    {
-        Answer {
-            reply,
-            is_last: false,
-        }
-    }
-}
-
-/// Hears a line: answers the request that it completes, if it does.
+/// Hears a line: answers the request that it completes, if it does, and puts the reply into the page.
 pub(crate) fn hear<A: Answers, K: Sink>(
     alloc: Global,
     answers: &A,
@@ -66,7 +56,7 @@ pub(crate) fn hear<A: Answers, K: Sink>(
     line: Option<&[u8]>,
     page: &mut Page,
     sink: &mut K,
-) -> Result<Option<Answer>, Stop>
+) -> Result<Heard, Stop>
     requires ready { A.ready answers.now state.old }
     requires number { 1 ≤ number }
     requires most_lines { number ≤ LINE_LIMIT }
@@ -81,7 +71,7 @@ pub(crate) fn hear<A: Answers, K: Sink>(
         kept rows.new (number, option_map (λ text. text.now) line.entry) page.old.items page.new.items sink.old sink.new result }
 {
     if is_blank_text(&line) {
-        return Ok(None);
+        return Ok(Heard::Nothing);
     }
     match rows.take() {
         Some(begun) => hear_row(answers, state, number, user, begun, rows, line, page, sink),
@@ -111,7 +101,7 @@ fn hear_row<A: Answers, K: Sink>(
     line: Option<&[u8]>,
     page: &mut Page,
     sink: &mut K,
-) -> Result<Option<Answer>, Stop>
+) -> Result<Heard, Stop>
     requires ready { A.ready answers.now state.old }
     requires short { IfSome (option_map (λ text. text.now) line) (λ text. length text ≤ 1024) }
     requires begun { (r : Rows) × IsGathered r begun × (length r.rows < r.count) }
@@ -130,12 +120,19 @@ fn hear_row<A: Answers, K: Sink>(
     begun.add(number, line);
     if begun.read < begun.count {
         *rows = Some(begun);
-        return Ok(None);
+        return Ok(Heard::Nothing);
     }
     let first = begun.line;
     let gathered = begun.finish();
-    match load_handed_on(answers, state, first, user, gathered, page, sink) {
-        Ok(reply) => Ok(Some(Answer::going_on(reply))),
+    answered(load_handed_on(answers, state, first, user, gathered, page, sink))
+}
+
+/// What a line comes to behind which the session goes on, once its request was handed on.
+fn answered(taken: Result<(), Stop>) -> Result<Heard, Stop>
+    ensures { result ≡ heard_of taken }
+{
+    match taken {
+        Ok(()) => Ok(Heard::Answered),
         Err(stop) => Err(stop),
     }
 }
@@ -149,7 +146,7 @@ fn load_handed_on<A: Answers, K: Sink>(
     gathered: Gathered,
     page: &mut Page,
     sink: &mut K,
-) -> Result<Reply, Stop>
+) -> Result<(), Stop>
     requires ready { A.ready answers.now state.old }
     requires line { 1 ≤ line }
     requires most_lines { line ≤ LINE_LIMIT }
@@ -162,10 +159,7 @@ fn load_handed_on<A: Answers, K: Sink>(
         result }
 {
     match gathered {
-        Gathered::Faulty(bad) => match answers.faulty(state, line, user, bad) {
-            Ok(reply) => Ok(reply),
-            Err(why) => Err(Stop::Kept(why)),
-        },
+        Gathered::Faulty(bad) => fault_handed_on(answers, state, line, user, bad, page, sink),
         Gathered::Wanting => want_handed_on(answers, state, line, user, page, sink),
         Gathered::Sound(change) => {
             change_handed_on(answers, state, line, user, change, page, sink)
@@ -181,7 +175,7 @@ fn want_handed_on<A: Answers, K: Sink>(
     user: &Name,
     page: &mut Page,
     sink: &mut K,
-) -> Result<Reply, Stop>
+) -> Result<(), Stop>
     requires ready { A.ready answers.now state.old }
     ensures ready { A.ready answers.now state.new }
     ensures cause { WriteCauses K.faults K.label sink.old sink.new result }
@@ -190,9 +184,9 @@ fn want_handed_on<A: Answers, K: Sink>(
         (to_make line change) page.old.items page.new.items sink.old sink.new result }
 {
     match flush(page, sink) {
-        Ok(()) => match answers.wanting(state, line, user) {
-            Ok(reply) => Ok(reply),
-            Err(why) => Err(Stop::Kept(why)),
+        Ok(()) => match &answers.wanting(state, line, user) {
+            Ok(reply) => put_out(page, reply, sink),
+            Err(why) => Err(Stop::Kept(*why)),
         },
         Err(fault) => Err(Stop::Sink(fault)),
     }
@@ -209,7 +203,7 @@ fn hear_request<A: Answers, K: Sink>(
     line: Option<&[u8]>,
     page: &mut Page,
     sink: &mut K,
-) -> Result<Option<Answer>, Stop>
+) -> Result<Heard, Stop>
     requires ready { A.ready answers.now state.old }
     requires number { 1 ≤ number }
     requires most_lines { number ≤ LINE_LIMIT }
@@ -226,7 +220,7 @@ fn hear_request<A: Answers, K: Sink>(
 {
     match line {
         Some(text) => hear_command(alloc, answers, state, number, user, rows, text, page, sink),
-        None => hear_fault(answers, state, number, user, Bad::Long),
+        None => answered(fault_handed_on(answers, state, number, user, Bad::Long, page, sink)),
     }
 }
 
@@ -242,7 +236,7 @@ fn hear_command<A: Answers, K: Sink>(
     text: &[u8],
     page: &mut Page,
     sink: &mut K,
-) -> Result<Option<Answer>, Stop>
+) -> Result<Heard, Stop>
     requires ready { A.ready answers.now state.old }
     requires number { 1 ≤ number }
     requires most_lines { number ≤ LINE_LIMIT }
@@ -259,38 +253,54 @@ fn hear_command<A: Answers, K: Sink>(
     let read = read_line(text);
     let command = match &read {
         Ok(command) => command,
-        Err(bad) => return hear_fault(answers, state, number, user, *bad),
+        Err(bad) => {
+            return answered(fault_handed_on(answers, state, number, user, *bad, page, sink));
+        }
     };
     if let Command::Load { scenario, count } = command {
         *rows = Some(Gathering::begin(alloc, number, scenario, *count));
-        return Ok(None);
+        return Ok(Heard::Nothing);
     }
-    match answer_command(answers, state, number, user, command, page, sink) {
-        Ok(answer) => Ok(Some(answer)),
-        Err(stop) => Err(stop),
-    }
+    answer_command(answers, state, number, user, command, page, sink)
 }
 
-/// Hands on that a line isn't in the grammar.
-fn hear_fault<A: Answers>(
+/// Hands on that a line isn't in the grammar, and puts the reply into the page.
+pub(crate) fn fault_handed_on<A: Answers, K: Sink>(
     answers: &A,
     state: &mut A::State,
     line: u64,
     user: &Name,
     bad: Bad,
-) -> Result<Option<Answer>, Stop>
+    page: &mut Page,
+    sink: &mut K,
+) -> Result<(), Stop>
     requires ready { A.ready answers.now state.old }
     ensures ready { A.ready answers.now state.new }
-    ensures told { IsFaultHeard (A.gives answers.now) (A.stops answers.now) state.old state.new
-        user.now (to_tell line bad) result }
+    ensures cause { WriteCauses K.faults K.label sink.old sink.new result }
+    ensures taken { IsTaken (A.gives answers.now) (A.stops answers.now) K.taken state.old state.new
+        user.now
+        (to_tell line bad)
+        page.old.items page.new.items sink.old sink.new result }
 {
-    match answers.faulty(state, line, user, bad) {
-        Ok(reply) => Ok(Some(Answer::going_on(reply))),
-        Err(why) => Err(Stop::Kept(why)),
+    match &answers.faulty(state, line, user, bad) {
+        Ok(reply) => put_out(page, reply, sink),
+        Err(why) => Err(Stop::Kept(*why)),
     }
 }
 
-/// Answers a command that is no LOAD.
+/// Puts a reply into the page.
+fn put_out<K: Sink>(page: &mut Page, reply: &Reply, sink: &mut K) -> Result<(), Stop>
+    ensures cause { WriteCauses K.faults K.label sink.old sink.new result }
+    ensures put { HasPut K.taken sink.old sink.new page.old.items page.new.items
+        (reply_text reply.now) result }
+{
+    match put_reply(page, reply, sink) {
+        Ok(()) => Ok(()),
+        Err(fault) => Err(Stop::Sink(fault)),
+    }
+}
+
+/// Answers a command that is no LOAD, and puts the reply into the page.
 fn answer_command<A: Answers, K: Sink>(
     answers: &A,
     state: &mut A::State,
@@ -299,37 +309,34 @@ fn answer_command<A: Answers, K: Sink>(
     command: &Command<'_>,
     page: &mut Page,
     sink: &mut K,
-) -> Result<Answer, Stop>
+) -> Result<Heard, Stop>
     requires ready { A.ready answers.now state.old }
     requires line { 1 ≤ line }
     requires most_lines { line ≤ LINE_LIMIT }
     requires sound { is_sound_command command.now ≡ true }
     ensures ready { A.ready answers.now state.new }
     ensures cause { WriteCauses K.faults K.label sink.old sink.new result }
-    ensures user { OnOk result
-        (user.new ≡ requests.user_after user.old (requests.wish_of command.now)) }
-    ensures last { IfOk result (λ answer. answer.is_last ≡ requests.is_quit (Ok command.now)) }
-    ensures ok { IfOk result (λ answer.
-        IsTaken (A.gives answers.now) (A.stops answers.now) K.taken state.old state.new user.old
+    ensures came { HasCome (A.gives answers.now) (A.stops answers.now) K.taken state.old state.new
+        user.old
+        user.new
         (record { line = line; wish = requests.wish_of command.now })
-        page.old.items page.new.items sink.old sink.new (Ok answer.reply)) }
-    ensures err { IfErr result (λ found.
-        IsTaken (A.gives answers.now) (A.stops answers.now) K.taken state.old state.new user.old
-        (record { line = line; wish = requests.wish_of command.now })
-        page.old.items page.new.items sink.old sink.new (Err found)) }
+        (requests.is_quit (Ok command.now))
+        page.old.items page.new.items sink.old sink.new result }
 {
-    let reply = match handed_on(answers, state, line, user, command, page, sink) {
-        Ok(reply) => reply,
-        Err(stop) => return Err(stop),
-    };
-    if let Command::Hello(name) = command {
-        *user = *name;
+    if let Err(stop) = handed_on(answers, state, line, user, command, page, sink) {
+        return Err(stop);
     }
-    let is_last = matches!(command, Command::Quit);
-    Ok(Answer { reply, is_last })
+    match command {
+        Command::Hello(name) => {
+            *user = *name;
+            Ok(Heard::Answered)
+        }
+        Command::Quit => Err(Stop::Quit),
+        _ => Ok(Heard::Answered),
+    }
 }
 
-/// Hands a command on. Before a change is handed on, what the page holds is written.
+/// Hands a command on, and puts the reply into the page. Before a change is handed on, what the page holds is written.
 fn handed_on<A: Answers, K: Sink>(
     answers: &A,
     state: &mut A::State,
@@ -338,7 +345,7 @@ fn handed_on<A: Answers, K: Sink>(
     command: &Command<'_>,
     page: &mut Page,
     sink: &mut K,
-) -> Result<Reply, Stop>
+) -> Result<(), Stop>
     requires ready { A.ready answers.now state.old }
     requires line { 1 ≤ line }
     requires most_lines { line ≤ LINE_LIMIT }
@@ -352,9 +359,9 @@ fn handed_on<A: Answers, K: Sink>(
 {
     match command.change() {
         Some(change) => change_handed_on(answers, state, line, user, change, page, sink),
-        None => match answers.ask(state, line, user, command) {
-            Ok(reply) => Ok(reply),
-            Err(why) => Err(Stop::Kept(why)),
+        None => match &answers.ask(state, line, user, command) {
+            Ok(reply) => put_out(page, reply, sink),
+            Err(why) => Err(Stop::Kept(*why)),
         },
     }
 }
@@ -368,7 +375,7 @@ fn change_handed_on<A: Answers, K: Sink>(
     change: Change,
     page: &mut Page,
     sink: &mut K,
-) -> Result<Reply, Stop>
+) -> Result<(), Stop>
     requires ready { A.ready answers.now state.old }
     requires line { 1 ≤ line }
     requires most_lines { line ≤ LINE_LIMIT }
@@ -383,8 +390,8 @@ fn change_handed_on<A: Answers, K: Sink>(
     if let Err(fault) = flush(page, sink) {
         return Err(Stop::Sink(fault));
     }
-    match answers.change(state, line, user, change) {
-        Ok(reply) => Ok(reply),
-        Err(why) => Err(Stop::Kept(why)),
+    match &answers.change(state, line, user, change) {
+        Ok(reply) => put_out(page, reply, sink),
+        Err(why) => Err(Stop::Kept(*why)),
     }
 }

@@ -10,14 +10,15 @@ ghost use Rattle.plan_schema.specs.declared.outside.SinkFault.TheVariants as sin
 ghost use Rattle.request_loop.specs.declared.answers.Why.{Why};
 ghost use Rattle.request_loop.specs.declared.hear.Stop.TheVariants as stop;
 ghost use Rattle.request_loop.specs.Gathered.{AreBegun};
+ghost use Rattle.request_loop.specs.Heard.{counted_after};
 ghost use Rattle.request_loop.specs.Serving.{ServedMore, ServedLast, SoFar, HasServed, sink_end};
 ghost use Rattle.request_loop.specs.Handed.{WriteCauses, Ending, HasEnded};
 
 use crate::answers::{Answers, Why};
 use crate::gathering::Gathering;
-use crate::hear::{Stop, hear};
+use crate::hear::{Heard, Stop, fault_handed_on, hear};
 use byte_lines::{Cut, Cutter, Served, Sink, SinkFault, Source};
-use command_words::{Page, flush, put_reply};
+use command_words::{Page, flush};
 use plan_schema::Name;
 use plan_schema::limits::{BYTE_LIMIT, LINE_LIMIT};
 use std::alloc::Global;
@@ -263,15 +264,9 @@ fn serve_left_over<A: Answers, K: Sink>(
         return Ok(());
     };
     let line = begun.line;
-    let reply = match answers.faulty(state, line, &progress.user, begun.cut_short()) {
-        Ok(reply) => reply,
-        Err(why) => return Err(Stop::Kept(why)),
-    };
+    let bad = begun.cut_short();
     progress.requests = progress.requests.saturating_add(1);
-    match put_reply(page, &reply, sink) {
-        Ok(()) => Ok(()),
-        Err(fault) => Err(Stop::Sink(fault)),
-    }
+    fault_handed_on(answers, state, line, &progress.user, bad, page, sink)
 }
 
 /// Serves the line that was read, and begins the next.
@@ -323,16 +318,20 @@ fn serve_line<A: Answers, K: Sink>(
         sink,
     );
     progress.cutter.next();
-    let answer = match heard {
-        Ok(Some(answer)) => answer,
-        Ok(None) => return Ok(()),
-        Err(stop) => return Err(stop),
-    };
-    progress.requests = progress.requests.saturating_add(1);
-    match put_reply(page, &answer.reply, sink) {
-        Ok(()) if answer.is_last => Err(Stop::Quit),
-        Ok(()) => Ok(()),
-        Err(fault) => Err(Stop::Sink(fault)),
+    progress.requests = requests_after(progress.requests, heard);
+    match heard {
+        Ok(_) => Ok(()),
+        Err(stop) => Err(stop),
+    }
+}
+
+/// How many requests were answered behind a line, of so many before it.
+fn requests_after(requests: u64, heard: Result<Heard, Stop>) -> u64
+    ensures { result ≡ counted_after requests heard }
+{
+    match heard {
+        Ok(Heard::Answered) | Err(Stop::Quit) => requests.saturating_add(1),
+        _ => requests,
     }
 }
 

@@ -6,5 +6,6 @@ use Rattle.request_loop.proofs.hear.hear_request.Goals as goal
 
 pub returns-in-None-clause-heard : goal.returns-in-None-clause-heard
 returns-in-None-clause-heard g c some =
-    told (g.A.Answers.gives c.args.answers.now) (g.A.Answers.stops c.args.answers.now) g.K.Sink.taken c.args.state.now c.hear_fault.new.state c.args.user.now c.args.rows.now c.args.number (option_map (λ text. text.now) c.args.line) c.args.page.now.items c.args.sink.now bads.Long c.hear_fault.result
-    (long_line c.args.number (option_map (λ text. text.now) c.args.line) (ap (option_map (λ text. text.now)) c.in-None.is)) some c.requires.none c.hear_fault.ensures.told
+    told (g.A.Answers.gives c.args.answers.now) (g.A.Answers.stops c.args.answers.now) g.K.Sink.taken c.args.state.now c.fault_handed_on.new.state c.args.user.now c.args.page.now.items c.fault_handed_on.new.page.items c.args.sink.now c.fault_handed_on.new.sink
+    c.args.rows.now c.args.number (option_map (λ text. text.now) c.args.line) bads.Long c.fault_handed_on.result c.answered.result c.answered.ensures
+    (long_line c.args.number (option_map (λ text. text.now) c.args.line) (ap (option_map (λ text. text.now)) c.in-None.is)) some c.requires.none c.fault_handed_on.ensures.taken

@@ -73,7 +73,7 @@ few_rounds (Some placed) rounds h =
     subst (λ n. n ≤ PAIR_LIMIT) (sym same) few
 
 -- where BASE JOURNAL and rounds are told
-told_files : (names : List (List ℕ)) (words : RoundWords) → round_words names ≡ Some words → (are_files words ≡ true) × (length (all_pairs words.rounds) ≤ PAIR_LIMIT)
+pub told_files : (names : List (List ℕ)) (words : RoundWords) → round_words names ≡ Some words → (are_files words ≡ true) × (length (all_pairs words.rounds) ≤ PAIR_LIMIT)
 unfolding round_words rounds_of
 told_files [] words h = cc
 told_files (base ∷ []) words h = cc

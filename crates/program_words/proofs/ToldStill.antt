@@ -1,5 +1,5 @@
--- What the grammar tells of a replay and of a trial.
-use Rattle.std.proofs.Common.{◌≡◌, ℕ, ◌≤◌, List, [], ◌∷◌, Bool, true, false, Option, Some, None, refl, subst}
+-- What the grammar tells of an audit, of a replay and of a trial.
+use Rattle.std.proofs.Common.{◌≡◌, ℕ, ◌≤◌, List, [], ◌∷◌, length, Bool, true, false, Option, Some, None, refl, subst}
 use Rattle.std.specs.Prelude.{option_map, option_and_then}
 use Rattle.program_words.specs.declared.names.RoundWords.{RoundWords}
 use Rattle.program_words.specs.declared.program.Program.TheVariants as program
@@ -10,13 +10,17 @@ use Rattle.program_words.specs.declared.verb.Verb.{Verb}
 use Rattle.program_words.specs.declared.verb.Verb.TheVariants as verb
 use Rattle.program_words.specs.declared.verb.StillVerb.{StillVerb}
 use Rattle.program_words.specs.declared.verb.StillVerb.TheVariants as which
+use Rattle.program_words.specs.declared.rounds.TheConstants.{PAIR_LIMIT}
 use Rattle.program_words.specs.Cut.{Cut, cut_words}
+use Rattle.program_words.specs.Names.{are_files}
+use Rattle.program_words.specs.Rounds.{all_pairs}
 use Rattle.program_words.specs.Words.{program_of, program_by, verb_of, round_words, run_words, still_words, as_audit, is_make, made, make_words, is_replay, replay_words, tried, trial_words, parts_of, start_of}
-use Rattle.program_words.proofs.Told.{from_option, fit, number_within, still_from, no_run, no_store}
+use Rattle.program_words.proofs.Told.{from_option, fit, number_within, told_files, still_from, no_run, no_store}
 
 -- words of a command that keeps the rules of its kind
 abbrev pub IsSound : Still → Type 0
-IsSound (still.Audit base journal rounds) = Unit {0}
+IsSound (still.Audit base journal rounds) =
+    (are_files (record { base = base; journal = journal; rounds = rounds }) ≡ true) × (length (all_pairs rounds) ≤ PAIR_LIMIT)
 IsSound (still.Replay base journal input output) = is_replay base journal input output ≡ true
 IsSound (still.Make parts start base input) = is_make base input ≡ true
 IsSound (still.Trial parts start) = (1 ≤ parts) × (parts ≤ PART_LIMIT)
@@ -24,9 +28,12 @@ IsSound (still.Trial parts start) = (1 ≤ parts) × (parts ≤ PART_LIMIT)
 some_same : (a b : Still) → Some a ≡ Some b → a ≡ b
 some_same a b h = cc
 
-of_audit : (found : Option RoundWords) (words : Still) → option_map as_audit found ≡ Some words → IsSound words
-of_audit None words h = cc
-of_audit (Some found) words h = subst IsSound (some_same (as_audit found) words h) tt
+from_words : (found : Option RoundWords) (words : Still) → option_map as_audit found ≡ Some words → (files : RoundWords) × (found ≡ Some files) × (as_audit files ≡ words)
+from_words None words h = cc
+from_words (Some found) words h = (found, refl, some_same (as_audit found) words h)
+
+of_audit : (names : List (List ℕ)) (words : Still) → option_map as_audit (round_words names) ≡ Some words → IsSound words
+of_audit names words h = let found = from_words (round_words names) words h in subst IsSound found.2 (told_files names found.0 found.1)
 
 of_replay : (names : List (List ℕ)) (words : Still) → replay_words names ≡ Some words → IsSound words
 unfolding replay_words
@@ -66,7 +73,7 @@ of_trial (parts ∷ start ∷ []) words h = of_tried parts (parts_of parts) (sta
 of_trial (parts ∷ start ∷ more ∷ rest) words h = cc
 
 of_still : (kind : StillVerb) (names : List (List ℕ)) (words : Still) → still_words kind names ≡ Some words → IsSound words
-of_still which.Audit names words h = of_audit (round_words names) words h
+of_still which.Audit names words h = of_audit names words h
 of_still which.Replay names words h = of_replay names words h
 of_still which.Make names words h = of_make names words h
 of_still which.Trial names words h = of_trial names words h

@@ -24,3 +24,4 @@ pub mod Requests
 pub mod Heard
 pub mod Through
 pub mod Points
+pub mod Gone

@@ -120,14 +120,6 @@ one_left n xs x within = drop-cons xs n x within ∙ (λ i. get_or xs n x ∷ dr
 pub later_left : {A : Type 0} (n : ℕ) (xs : List A) (x : A) → drop (n + 1) (set xs n x) ≡ drop (n + 1) xs
 later_left n xs x = drop-set-lt (n + 1) xs n x (omega arith)
 
--- a source failed where the run's fault says so
-pub rises : {A B : Type 0} (number : ℕ) (fault : SessionFault) → run_fault number fault ≡ run.Read → (fault ≡ session.Input → A) → (fault ≡ session.Output → B) → A ⊎ B
-rises number session.Input is a b = inl (a refl)
-rises number session.Output is a b = inr (b refl)
-rises number session.Memory is a b = let no : ⊥ = cc in absurd no
-rises number session.Limit is a b = let no : ⊥ = cc in absurd no
-rises number (session.Breaks line rule) is a b = let no : ⊥ = cc in absurd no
-
 -- how many desks there are from a round on
 pub desks_left : {D : Type 0} (rounds : List (List D)) (desks : List D) (at : ℕ) → slice_get rounds at ≡ Some desks → (drop at rounds ≡ desks ∷ drop (at + 1) rounds) × (desk_count (drop at rounds) ≡ length desks + desk_count (drop (at + 1) rounds))
 desks_left rounds desks at is =

@@ -1,14 +1,17 @@
 -- What going through the rounds of a run comes to.
-use Rattle.std.specs.Prelude.{◌≡◌, ◌⊎◌, ℕ, List, [], ◌∷◌, ◌++◌, Option, Some, Result, Ok, Err}
+use Rattle.std.specs.Prelude.{◌≡◌, ◌⊎◌, ℕ, Bool, true, false, List, [], ◌∷◌, ◌++◌, Option, Some, Result, Ok, Err}
+use Rattle.std.specs.List.{list_any}
 use Rattle.plan_schema.specs.Outside.{Rose}
 use Rattle.byte_lines.specs.declared.rounds.Desk.{Desk}
 use Rattle.byte_lines.specs.declared.rounds.Served.{Served}
 use Rattle.byte_lines.specs.declared.rounds.Served.TheVariants as ends
+use Rattle.byte_lines.specs.Desks.{all_desks}
 use Rattle.plan_audit.specs.declared.session.SessionFault.{SessionFault}
 use Rattle.plan_audit.specs.declared.session.SessionFault.TheVariants as session
 use Rattle.plan_audit.specs.declared.rounds.RunFault.{RunFault}
 use Rattle.plan_audit.specs.declared.rounds.RunFault.TheVariants as run
 use Rattle.plan_audit.specs.Verdicts.{Pair, Fault, Breaks, IsLong}
+use Rattle.plan_audit.specs.Cases.{StaysSource}
 
 -- the first two are what is left of a desk's sources
 module _ {S K : Type 0} (left : S → Option (List ℕ)) (written : K → Option (List ℕ)) where
@@ -23,9 +26,38 @@ module _ {S K : Type 0} (left : S → Option (List ℕ)) (written : K → Option
   AreRoundsTold (desks ∷ rounds) (pairs ∷ more) = AreTold desks pairs × AreRoundsTold rounds more
   AreRoundsTold _ _ = ⊥
 
--- the count of one of a desk's sources rose
-abbrev pub HasRisen : {S K : Type 0} → (S → ℕ) → (K → ℕ) → Desk S K → Desk S K → Type 0
-HasRisen reads writes old new = Rose (reads old.source) (reads new.source) ⊎ Rose (writes old.sink) (writes new.sink)
+-- one of a desk's sources is told to have failed
+abbrev pub is_told_unread : Option Served → Bool
+is_told_unread (Some ends.ReadFault) = true
+is_told_unread (Some ends.WriteFault) = true
+is_told_unread served = false
+
+abbrev pub is_unread : {S K : Type 0} → Desk S K → Bool
+is_unread desk = is_told_unread desk.served
+
+-- a source of one of these desks is told to have failed
+abbrev pub has_unread : {S K : Type 0} → List (List (Desk S K)) → Bool
+has_unread rounds = list_any is_unread (all_desks rounds)
+
+-- a desk's meanings: the count of faults and the label of its source, and those of its sink
+module _ {S K : Type 0} (reads : S → ℕ) (source_label : S → List ℕ) (writes : K → ℕ) (sink_label : K → List ℕ) where
+  -- a desk was gone through: its sources keep their labels, and one is told to have failed where it was told so before, or where its
+  -- count rose
+  pub record IsGone (old new : Desk S K) : Type 0 where
+    pub input : StaysSource reads source_label old.source new.source
+    pub output : StaysSource writes sink_label old.sink new.sink
+    pub read : new.served ≡ Some ends.ReadFault → (old.served ≡ Some ends.ReadFault) ⊎ Rose (reads old.source) (reads new.source)
+    pub read_output : new.served ≡ Some ends.WriteFault → (old.served ≡ Some ends.WriteFault) ⊎ Rose (writes old.sink) (writes new.sink)
+
+  abbrev pub AreGone : List (Desk S K) → List (Desk S K) → Type 0
+  AreGone [] [] = Unit {0}
+  AreGone (old ∷ olds) (new ∷ news) = IsGone old new × AreGone olds news
+  AreGone _ _ = ⊥
+
+  abbrev pub AreRoundsGone : List (List (Desk S K)) → List (List (Desk S K)) → Type 0
+  AreRoundsGone [] [] = Unit {0}
+  AreRoundsGone (old ∷ olds) (new ∷ news) = AreGone old new × AreRoundsGone olds news
+  AreRoundsGone _ _ = ⊥
 
 abbrev pub run_fault : ℕ → SessionFault → RunFault
 run_fault number session.Input = run.Read

@@ -1,12 +1,14 @@
 //! The audit of a run: its journal, its sessions in order, and the entries that no reply printed.
-ghost use Rattle.std.specs.Prelude.{◌≡◌, ◌+◌, ◌<◌, ◌^◌, ℕ, List, [], None, Result, IfOk};
+ghost use Rattle.std.specs.Prelude.{◌≡◌, ◌+◌, ◌<◌, ◌^◌, ℕ, true, List, [], None, Result, Err, IfOk};
 ghost use Rattle.plan_schema.specs.declared.change.Entry.{Entry as JournalEntry};
 ghost use Rattle.byte_lines.specs.Desks.{desk_count};
 ghost use Rattle.plan_journal.specs.Laws.{IsJournal};
 ghost use Rattle.scenario_rules.specs.Journal.{IsLegal};
 ghost use Rattle.scenario_rules.specs.Whole.{AreWholeContents, AreWithinLimits};
 ghost use Rattle.plan_audit.specs.Verdicts.{Pair, Fault, first_refused, rounds_seen, of_sessions, audited};
-ghost use Rattle.plan_audit.specs.Rounds.{AreRoundsTold, IsRunFault};
+ghost use Rattle.plan_audit.specs.Rounds.{AreRoundsTold, AreRoundsGone, IsRunFault, has_unread};
+ghost use Rattle.plan_audit.specs.declared.rounds.RunFault.TheVariants as run;
+ghost use Rattle.plan_audit.specs.declared.auditing.AuditFault.TheVariants as faults;
 ghost use Rattle.plan_audit.specs.Audits.{ComesTo};
 
 use crate::lost::{judged_by, marks_of};
@@ -53,8 +55,11 @@ pub fn audit<S: Source, K: Source>(
     requires limits { AreWithinLimits base.now }
     requires journal { IsJournal journal.now.entries }
     requires few { 1 + desk_count rounds.old < 2 ^ 64 }
-    ensures { (pairs : List (List Pair)) → AreRoundsTold S.left K.left rounds.old pairs
+    ensures verdict { (pairs : List (List Pair))
+        → AreRoundsTold S.left K.left rounds.old pairs
         → ComesTo (audited base.now journal.now.entries pairs) result }
+    ensures gone { AreRoundsGone S.faults S.label K.faults K.label rounds.old rounds.new }
+    ensures read { result ≡ Err faults.Read → has_unread rounds.new ≡ true }
 {
     match refused_number(alloc, base, journal)? {
         Some(number) => Ok(Verdict::Journal(number)),
@@ -73,8 +78,11 @@ fn audit_sessions<S: Source, K: Source>(
     requires limits { AreWithinLimits base.now }
     requires legal { IsLegal base.now entries.now }
     requires few { 1 + desk_count rounds.old < 2 ^ 64 }
-    ensures { (pairs : List (List Pair)) → AreRoundsTold S.left K.left rounds.old pairs
+    ensures verdict { (pairs : List (List Pair))
+        → AreRoundsTold S.left K.left rounds.old pairs
         → ComesTo (of_sessions entries.now (rounds_seen base.now entries.now 1 pairs)) result }
+    ensures gone { AreRoundsGone S.faults S.label K.faults K.label rounds.old rounds.new }
+    ensures read { result ≡ Err faults.Read → has_unread rounds.new ≡ true }
 {
     match audit_rounds(alloc, base, entries, rounds) {
         Ok(points) => {
@@ -87,8 +95,9 @@ fn audit_sessions<S: Source, K: Source>(
 
 /// What a fault of the sessions comes to: a verdict, where a rule is broken.
 fn fault_told(fault: RunFault) -> Result<Verdict, AuditFault>
-    ensures { (entries : List JournalEntry) (seen : Result (List ℕ) Fault) → IsRunFault seen fault
-        → ComesTo (of_sessions entries seen) result }
+    ensures verdict { (entries : List JournalEntry) (seen : Result (List ℕ) Fault)
+        → IsRunFault seen fault → ComesTo (of_sessions entries seen) result }
+    ensures read { result ≡ Err faults.Read → fault ≡ run.Read }
 {
     match fault {
         RunFault::Breaks(session, line, rule) => Ok(Verdict::NotLegal {

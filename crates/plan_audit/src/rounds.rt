@@ -1,5 +1,6 @@
 //! The sessions of a run are gone through, round by round.
-ghost use Rattle.std.specs.Prelude.{◌≡◌, ◌<◌, ◌+◌, ◌^◌, List, Some, Err, length, drop, IfOk, IfErr};
+ghost use Rattle.std.specs.Prelude.{◌≡◌, ◌<◌, ◌+◌, ◌^◌, true, List, Some, Err, length, drop, IfOk, IfErr};
+ghost use Rattle.std.specs.List.{list_any};
 ghost use Rattle.byte_lines.specs.Desks.{desk_count};
 ghost use Rattle.scenario_rules.specs.Journal.{AreSound, AreAccepted};
 ghost use Rattle.scenario_rules.specs.Whole.{AreWholeContents, AreWithinLimits};
@@ -7,7 +8,8 @@ ghost use Rattle.session_rules.specs.Runs.{entries_of};
 ghost use Rattle.plan_audit.specs.Verdicts.{Pair, session_seen, round_seen, rounds_seen};
 ghost use Rattle.plan_audit.specs.Cases.{terms_of, AreTerms};
 ghost use Rattle.plan_audit.specs.Rounds.{AreTold, AreRoundsTold, ArePoints, IsRunFault, run_fault};
-ghost use Rattle.plan_audit.specs.Rounds.{served_with, HasRisen};
+ghost use Rattle.plan_audit.specs.Rounds.{IsGone, AreGone, AreRoundsGone, is_unread, has_unread};
+ghost use Rattle.plan_audit.specs.Rounds.{served_with};
 ghost use Rattle.plan_audit.specs.declared.rounds.RunFault.TheVariants as run;
 
 use crate::case::Case;
@@ -47,6 +49,8 @@ pub fn audit_rounds<S: Source, K: Source>(
         → IfOk result (λ points. rounds_seen base.now entries.now 1 pairs ≡ Ok points.items) }
     ensures fault { (pairs : List (List Pair)) → AreRoundsTold S.left K.left rounds.old pairs
         → IfErr result (IsRunFault (rounds_seen base.now entries.now 1 pairs)) }
+    ensures gone { AreRoundsGone S.faults S.label K.faults K.label rounds.old rounds.new }
+    ensures read { result ≡ Err run.Read → has_unread rounds.new ≡ true }
 {
     let mut points = Vec::new(alloc);
     let case = Case {
@@ -75,9 +79,11 @@ fn audit_from<S: Source, K: Source>(
     requires sound { AreSound case.now.entries.now }
     requires accepted { AreAccepted case.now.base.now case.now.entries.now }
     requires few { case.now.session + desk_count (drop at rounds.old) < 2 ^ 64 }
-    ensures { (pairs : List (List Pair)) → AreRoundsTold S.left K.left (drop at rounds.old) pairs
+    ensures seen { (pairs : List (List Pair)) → AreRoundsTold S.left K.left (drop at rounds.old) pairs
         → ArePoints (rounds_seen case.now.base.now case.now.entries.now case.now.session pairs)
         points.old.items points.new.items result }
+    ensures gone { AreRoundsGone S.faults S.label K.faults K.label rounds.old rounds.new }
+    ensures read { result ≡ Err run.Read → has_unread rounds.new ≡ true }
 {
     if at >= rounds.rounds() {
         return Ok(());
@@ -132,9 +138,11 @@ fn audit_desks<S: Source, K: Source>(
     requires limits { AreWithinLimits case.now.base.now }
     requires terms { AreTerms (terms_of case.now) }
     requires few { case.now.session + length desks.old < 2 ^ 64 }
-    ensures { (pairs : List Pair) → AreTold S.left K.left (drop at desks.old) pairs
+    ensures seen { (pairs : List Pair) → AreTold S.left K.left (drop at desks.old) pairs
         → ArePoints (round_seen case.now.base.now case.now.entries.now case.now.floor
         case.now.ceiling (case.now.session + at) pairs) points.old.items points.new.items result }
+    ensures gone { AreGone S.faults S.label K.faults K.label desks.old desks.new }
+    ensures read { result ≡ Err run.Read → list_any is_unread desks.new ≡ true }
 {
     if at >= desks.len() {
         return Ok(());
@@ -166,7 +174,8 @@ fn audit_desk<S: Source, K: Source>(
         → K.left desk.old.sink ≡ Some pair.output
         → ArePoints (session_seen case.entry.base.now case.entry.entries.now case.entry.floor
         case.entry.ceiling case.entry.session pair) points.old.items points.new.items result }
-    ensures read { result ≡ Err run.Read → HasRisen S.faults K.faults desk.old desk.new }
+    ensures gone { IsGone S.faults S.label K.faults K.label desk.old desk.new }
+    ensures read { result ≡ Err run.Read → is_unread desk.new ≡ true }
 {
     let session = case.session;
     match audit_session(case, &mut desk.source, &mut desk.sink) {

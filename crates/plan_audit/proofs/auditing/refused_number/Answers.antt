@@ -1,11 +1,10 @@
-use Rattle.std.proofs.Common.{◌≡◌, ◌∙◌, ◌+◌, ◌++◌, [], List, Some, None, append-nil, zero-add, ap, sym, subst, arith}
+use Rattle.std.proofs.Common.{◌≡◌, ◌∙◌, ◌+◌, ◌++◌, [], Some, append-nil, zero-add, ap, sym, subst, arith}
 use Rattle.std.proofs.lemmas.Option.{slice_get_within}
 use Rattle.plan_journal.proofs.JournalLaws.{all_sound}
 use Rattle.plan_core.specs.State.{history}
 use Rattle.plan_core.specs.Behind.{IsFirstRefused, IsNoCore}
 use Rattle.scenario_rules.specs.Journal.{IsLegal}
 use Rattle.plan_schema.specs.Contents.{Contents}
-use Rattle.plan_audit.specs.Verdicts.{first_refused}
 use Rattle.plan_audit.proofs.SoundRuns.{unrefused}
 use Rattle.plan_audit.proofs.Marks.{refused_there}
 use Rattle.plan_audit.proofs.auditing.refused_number.Goals as goal

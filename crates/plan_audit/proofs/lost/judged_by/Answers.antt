@@ -1,4 +1,4 @@
-use Rattle.std.proofs.Common.{◌≡◌, ◌∙◌, ◌+◌, ◌<◌, ℕ, List, ◌∷◌, Bool, true, false, Some, None, length, drop, slice_index_or, ap, refl, subst, sym, arith}
+use Rattle.std.proofs.Common.{◌≡◌, ◌∙◌, ◌+◌, ◌<◌, ◌∷◌, false, length, drop, slice_index_or, ap, refl, sym, arith}
 use Rattle.plan_schema.specs.declared.change.Entry.{Entry}
 use Rattle.plan_audit.specs.Verdicts.{first_lost, judged_last}
 use Rattle.plan_audit.proofs.Points.{one_left, nothing_left}

@@ -1,4 +1,4 @@
-use Rattle.std.proofs.Common.{◌≡◌, ◌∙◌, ◌∷◌, ◌++◌, [], Bool, List, false, length, length-append, slice_index_or, ap, refl, subst, sym, arith}
+use Rattle.std.proofs.Common.{◌≡◌, ◌∙◌, ◌∷◌, ◌++◌, [], Bool, List, false, length, length-append, slice_index_or, ap, arith}
 use Rattle.plan_audit.proofs.Marks.{all_unmarked}
 use Rattle.plan_audit.proofs.lost.unmarked.Goals as goal
 

@@ -8,9 +8,10 @@ use Rattle.program_words.specs.declared.program.RunWords.{RunWords}
 use Rattle.program_words.specs.Words.{program_of}
 use Rattle.program_words.specs.Words.{is_replay}
 use Rattle.program_words.proofs.Told.{IsTold, told, IsMakeTold, told_make}
-use Rattle.program_words.proofs.ToldStill.{told_still}
+use Rattle.program_words.proofs.ToldStill.{IsSound, told_still}
 use Rattle.response_program.specs.declared.asked.Asked.{Asked}
 use Rattle.response_program.specs.declared.asked.Asked.TheVariants as asked
+use Rattle.response_program.specs.declared.files.Auditing.{Auditing}
 use Rattle.response_program.specs.declared.making.Making.{Making}
 use Rattle.response_program.specs.declared.replay.Replaying.{Replaying}
 use Rattle.response_program.specs.Words.{served_by, served}
@@ -54,6 +55,21 @@ is_replaying (program.Still (still.Replay base journal input output)) replaying 
 is_replaying (program.Still (still.Make parts start base input)) replaying h = cc
 is_replaying (program.Still (still.Trial parts start)) replaying h = cc
 
+-- the program of an audit
+abbrev pub audit_program : Auditing → Program
+audit_program words = program.Still (still.Audit words.base words.journal words.rounds)
+
+is_audit : (words : Program) (auditing : Auditing) → Some (asked.Audit auditing) ≡ served_by words → words ≡ audit_program auditing
+is_audit (program.Run other) auditing h = cc
+is_audit (program.Keep other) auditing h = cc
+is_audit (program.Still (still.Audit base journal rounds)) auditing h = ap audit_program (same_audit (record { base = base; journal = journal; rounds = rounds }) auditing (sym h))
+  where
+    same_audit : (made other : Auditing) → Some (asked.Audit made) ≡ Some (asked.Audit other) → made ≡ other
+    same_audit made other h = cc
+is_audit (program.Still (still.Replay base journal input output)) auditing h = cc
+is_audit (program.Still (still.Make parts start base input)) auditing h = cc
+is_audit (program.Still (still.Trial parts start)) auditing h = cc
+
 is_trial : (words : Program) (parts start : ℕ) → Some (asked.Trial parts start) ≡ served_by words → words ≡ program.Still (still.Trial parts start)
 is_trial (program.Run other) parts start h = cc
 is_trial (program.Keep other) parts start h = cc
@@ -62,9 +78,13 @@ is_trial (program.Still (still.Replay base journal input output)) parts start h 
 is_trial (program.Still (still.Make count from base input)) parts start h = cc
 is_trial (program.Still (still.Trial count from)) parts start h = cc
 
--- what the words tell of a run that is served, of a making, of a replay, and of a trial
+-- what the words tell of a run that is served, of an audit, of a making, of a replay, and of a trial
 pub asked_told : (words : List (List ℕ)) (found : Program) (run : RunWords) → program_of words ≡ Some found → Some (asked.Run run) ≡ served_by found → IsTold run
 asked_told words found run is by = told words run (is ∙ ap Some (is_run found run by))
+
+pub asked_audit : (words : List (List ℕ)) (found : Program) (auditing : Auditing) → program_of words ≡ Some found → Some (asked.Audit auditing) ≡ served_by found
+    → IsSound (still.Audit auditing.base auditing.journal auditing.rounds)
+asked_audit words found auditing is by = told_still words (still.Audit auditing.base auditing.journal auditing.rounds) (is ∙ ap Some (is_audit found auditing by))
 
 pub asked_make : (words : List (List ℕ)) (found : Program) (making : Making) → program_of words ≡ Some found → Some (asked.Make making) ≡ served_by found → IsMakeTold making.parts making.base making.input
 asked_make words found making is by = told_make words making.parts making.start making.base making.input (is ∙ ap Some (is_make found making by))

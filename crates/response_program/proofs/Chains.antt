@@ -6,7 +6,7 @@ use Rattle.plan_schema.specs.Outside.{Wrote, Rose, OpenCause, Counted, Stays}
 use Rattle.plan_schema.specs.declared.outside.SinkFault.{SinkFault}
 use Rattle.plan_schema.proofs.Writes.{rose_later, rose_after, wrote_then}
 use Rattle.response_program.specs.Views.{View, NoneFell}
-use Rattle.response_program.specs.Outcomes.{Outcome, Done, Made, Tried, OfJournal, NoMemory, Refused, NotOpened, NotRead, NotWritten, TooLong, HasCause}
+use Rattle.response_program.specs.Outcomes.{Outcome, Done, Made, Tried, Legal, OfJournal, NotLegal, NoMemory, Refused, NotOpened, NotRead, NotWritten, TooLong, HasCause}
 
 pub same_or_other : (before now : List ℕ → ℕ) (name : List ℕ) → before name ≤ now name → ((other : List ℕ) → other ≢ name → now other ≡ before other) → (other : List ℕ) → before other ≤ now other
 same_or_other before now name here others other =
@@ -48,9 +48,11 @@ pub cause_later : (a b c : View) (outcome : Outcome) → NoneFell b c → HasCau
 cause_later a b c (Done totals) h k = tt
 cause_later a b c (Made parts) h k = tt
 cause_later a b c (Tried trial) h k = tt
+cause_later a b c (Legal entries) h k = tt
 cause_later a b c NoMemory h k = tt
 cause_later a b c (Refused fault) h k = tt
 cause_later a b c (OfJournal bad) h k = tt
+cause_later a b c (NotLegal breach) h k = tt
 cause_later a b c (NotOpened name) h k = rose_later _ _ _ k (h.opens name)
 cause_later a b c (NotRead name) h k = rose_later _ _ _ k (h.reads name)
 cause_later a b c (NotWritten name) h k = rose_later _ _ _ k (h.writes name)
@@ -60,9 +62,11 @@ pub cause_after : (a b c : View) (outcome : Outcome) → NoneFell a b → HasCau
 cause_after a b c (Done totals) h k = tt
 cause_after a b c (Made parts) h k = tt
 cause_after a b c (Tried trial) h k = tt
+cause_after a b c (Legal entries) h k = tt
 cause_after a b c NoMemory h k = tt
 cause_after a b c (Refused fault) h k = tt
 cause_after a b c (OfJournal bad) h k = tt
+cause_after a b c (NotLegal breach) h k = tt
 cause_after a b c (NotOpened name) h k = rose_after _ _ _ (h.opens name) k
 cause_after a b c (NotRead name) h k = rose_after _ _ _ (h.reads name) k
 cause_after a b c (NotWritten name) h k = rose_after _ _ _ (h.writes name) k

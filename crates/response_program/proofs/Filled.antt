@@ -10,7 +10,7 @@ use Rattle.response_program.specs.InRounds.{begun, put, filled}
 
 module _ {D : Type 0} where
   -- a round for each pair that ends one, with the desks of those before it
-  abbrev grouped : List PlacedPair → List D → List (List D)
+  abbrev pub grouped : List PlacedPair → List D → List (List D)
   grouped (placed ∷ pairs) (desk ∷ desks) = if placed.ends_round then (desk ∷ []) ∷ grouped pairs desks else onto_first desk (grouped pairs desks)
   grouped pairs desks = []
 
@@ -57,7 +57,7 @@ module _ {D : Type 0} where
   filled_next ends rounds round [] (desk ∷ desks) many = cc
   filled_next ends rounds round (placed ∷ pairs) [] many = cc
 
-  filled_all : (pairs : List PlacedPair) (desks : List D) → length pairs ≡ length desks → filled true [] pairs desks ≡ grouped pairs desks
+  pub filled_all : (pairs : List PlacedPair) (desks : List D) → length pairs ≡ length desks → filled true [] pairs desks ≡ grouped pairs desks
   filled_all [] [] many = refl
   filled_all (placed ∷ pairs) (desk ∷ desks) many =
       filled_next placed.ends_round [] (desk ∷ []) pairs desks (ap pred many) ∙ new_round placed.ends_round desk (grouped pairs desks)

@@ -10,7 +10,7 @@ use Rattle.byte_lines.specs.Desks.{all_desks, no_desks}
 use Rattle.byte_lines.proofs.DeskSteps.{all_desks-none}
 use Rattle.program_words.specs.Rounds.{Pair, pair_of}
 use Rattle.program_words.specs.declared.rounds.PlacedPair.{PlacedPair}
-use Rattle.response_program.specs.Outcomes.{Outcome, Done, Made, Tried, OfJournal, NoMemory, Refused, NotOpened, NotRead, NotWritten, TooLong, stop_by, is_memory, first_or_memory, stop_in_rounds}
+use Rattle.response_program.specs.Outcomes.{Outcome, Done, Made, Tried, Legal, OfJournal, NotLegal, NoMemory, Refused, NotOpened, NotRead, NotWritten, TooLong, stop_by, is_memory, first_or_memory, stop_in_rounds}
 use Rattle.response_program.specs.Desks.{DeskView}
 use Rattle.response_program.specs.InRounds.{AreNamed, put, filled, desk_at, desks_at, AreLabelled, AreFilled}
 
@@ -47,7 +47,9 @@ told_memory (Some NoMemory) is = refl
 told_memory (Some (Done totals)) is = cc
 told_memory (Some (Made parts)) is = cc
 told_memory (Some (Tried totals)) is = cc
+told_memory (Some (Legal entries)) is = cc
 told_memory (Some (OfJournal bad)) is = cc
+told_memory (Some (NotLegal breach)) is = cc
 told_memory (Some (Refused fault)) is = cc
 told_memory (Some (NotOpened name)) is = cc
 told_memory (Some (NotRead name)) is = cc

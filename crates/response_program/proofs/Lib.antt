@@ -26,6 +26,9 @@ pub mod Memory
 pub mod Unmade
 pub mod Makings
 pub mod Shown
+pub mod Histories
 pub mod Replays
+pub mod ToRead
+pub mod Audits
 pub mod Entered
 pub mod Trials

@@ -14,7 +14,7 @@ use Rattle.plan_make.specs.Input.{input_text}
 use Rattle.plan_make.specs.Made.{of_base, WroteBehind}
 use Rattle.response_program.specs.Names.{console}
 use Rattle.response_program.specs.Views.{View, NoneFell}
-use Rattle.response_program.specs.Outcomes.{Outcome, Done, Made, Tried, OfJournal, NoMemory, Refused, NotOpened, NotRead, NotWritten, TooLong, status_of, console_line, of_open, of_make, and_written}
+use Rattle.response_program.specs.Outcomes.{Outcome, Done, Made, Tried, Legal, OfJournal, NotLegal, NoMemory, Refused, NotOpened, NotRead, NotWritten, TooLong, status_of, console_line, of_open, of_make, and_written}
 use Rattle.response_program.specs.Runs.{Tells}
 use Rattle.response_program.specs.Console.{HasTold}
 use Rattle.response_program.specs.Making.{AreApart, IsWritten, IsOfMake, Holds, HasMadeFiles, HasMade}
@@ -102,10 +102,12 @@ of_make_written parts base input outcome (Ok done) is = is
 of_make_written parts base input outcome (Err sinks.Memory) is = tt
 of_make_written parts base input (Done totals) (Err sinks.Failed) is = absurd is
 of_make_written parts base input (Tried trial) (Err sinks.Failed) is = absurd is
+of_make_written parts base input (Legal entries) (Err sinks.Failed) is = absurd is
 of_make_written parts base input (Made count) (Err sinks.Failed) is = inl refl
 of_make_written parts base input NoMemory (Err sinks.Failed) is = is
 of_make_written parts base input (Refused fault) (Err sinks.Failed) is = is
 of_make_written parts base input (OfJournal bad) (Err sinks.Failed) is = is
+of_make_written parts base input (NotLegal breach) (Err sinks.Failed) is = is
 of_make_written parts base input (NotOpened name) (Err sinks.Failed) is = is
 of_make_written parts base input (NotRead name) (Err sinks.Failed) is = is
 of_make_written parts base input (NotWritten name) (Err sinks.Failed) is = is
@@ -117,10 +119,12 @@ holds_written parts base input text before now outcome (Ok done) kind is = is
 holds_written parts base input text before now outcome (Err sinks.Memory) kind is = tt
 holds_written parts base input text before now (Done totals) (Err sinks.Failed) kind is = absurd kind
 holds_written parts base input text before now (Tried trial) (Err sinks.Failed) kind is = absurd kind
+holds_written parts base input text before now (Legal entries) (Err sinks.Failed) kind is = absurd kind
 holds_written parts base input text before now (Made count) (Err sinks.Failed) kind is = whole_front text now is
 holds_written parts base input text before now NoMemory (Err sinks.Failed) kind is = is
 holds_written parts base input text before now (Refused fault) (Err sinks.Failed) kind is = is
 holds_written parts base input text before now (OfJournal bad) (Err sinks.Failed) kind is = is
+holds_written parts base input text before now (NotLegal breach) (Err sinks.Failed) kind is = is
 holds_written parts base input text before now (NotOpened name) (Err sinks.Failed) kind is = is
 holds_written parts base input text before now (NotRead name) (Err sinks.Failed) kind is = is
 holds_written parts base input text before now (NotWritten name) (Err sinks.Failed) kind is = is

@@ -43,3 +43,8 @@ all_map P Q f (x ∷ xs) h = (f x h.0, all_map P Q f xs h.1)
 pub all_behind : {A : Type 0} (P : A → Type 0) (front xs : List A) → AllByRecursion P (front ++ xs) → AllByRecursion P xs
 all_behind P [] xs h = h
 all_behind P (x ∷ front) xs h = all_behind P front xs h.1
+
+-- and of those in front of others
+pub all_front : {A : Type 0} (P : A → Type 0) (front xs : List A) → AllByRecursion P (front ++ xs) → AllByRecursion P front
+all_front P [] xs h = tt
+all_front P (x ∷ front) xs h = (h.0, all_front P front xs h.1)

@@ -4,10 +4,11 @@ use Rattle.std.specs.List.{AllByRecursion, list_all, list_any}
 use Rattle.std.specs.Cmp.Lexicographic.{bytes_decides}
 use Rattle.std.proofs.lemmas.Bool.{and_parts, cases_Bool}
 use Rattle.program_words.specs.declared.program.RunWords.{RunWords}
+use Rattle.program_words.specs.Rounds.{all_pairs}
 use Rattle.program_words.specs.Names.{is_file, has_files, are_files, is_input, is_output, is_apart, do_outputs_differ, do_differ}
 use Rattle.program_words.specs.Words.{is_make, is_replay}
 use Rattle.program_words.proofs.Told.{IsTold}
-use Rattle.response_program.specs.Names.{Pair, console, IsApart, IsNoInput, AreOutputsApart, Differ, names_of}
+use Rattle.response_program.specs.Names.{Pair, console, IsApart, IsNoInput, AreOutputsApart, Differ, NoConsole, names_of, names_to_audit}
 use Rattle.response_program.specs.Making.{AreApart}
 use Rattle.response_program.specs.Replayed.{AreOfReplay, replay_names}
 use Rattle.response_program.proofs.Named.{each}
@@ -67,6 +68,14 @@ told_differ run told =
       no_input = each (λ (pair : Pair). not (is_input pair.output pairs)) (IsNoInput pairs) (λ pair. none_is (λ other. other.input) pair.output pairs) pairs written.0;
       outputs = outputs pairs written.1;
     }
+
+pub audit_apart : (base journal : List ℕ) (rounds : List (List Pair)) → are_files (record { base = base; journal = journal; rounds = rounds }) ≡ true → NoConsole (names_to_audit base journal rounds)
+unfolding are_files
+audit_apart base journal rounds h =
+    let pairs = all_pairs rounds in
+    let files = and_parts (is_file base && is_file journal) (list_all has_files pairs) h in
+    let two = and_parts (is_file base) (is_file journal) files.0 in
+    record { base = no_console base two.0; journal = no_console journal two.1; pairs = each has_files (IsApart console) of_files pairs files.1 }
 
 pub make_apart : (base input : List ℕ) → is_make base input ≡ true → AreApart base input
 make_apart base input h =

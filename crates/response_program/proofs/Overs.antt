@@ -12,7 +12,7 @@ use Rattle.scenario_rules.specs.Journal.{IsLegal}
 use Rattle.response_program.specs.declared.ending.Totals.{Totals}
 use Rattle.response_program.specs.Names.{Pair, Names, Differ}
 use Rattle.response_program.specs.Views.{View, NoneFell}
-use Rattle.response_program.specs.Outcomes.{Outcome, Done, Made, Tried, OfJournal, NoMemory, Refused, NotOpened, NotRead, NotWritten, TooLong, HasCause, and_written}
+use Rattle.response_program.specs.Outcomes.{Outcome, Done, Made, Tried, Legal, OfJournal, NotLegal, NoMemory, Refused, NotOpened, NotRead, NotWritten, TooLong, HasCause, and_written}
 use Rattle.response_program.specs.Desks.{DeskView, Opens, AreGivenBack, HasServedAll, HasServedNone, IsOpening}
 use Rattle.response_program.specs.InRounds as served
 use Rattle.response_program.specs.InRounds.{AreCome, HasServedRounds, HasServedRun}
@@ -179,9 +179,11 @@ of_base names None totals kind apart is = is
 of_base names (Some (NotRead name)) totals kind apart is = apart name refl is
 of_base names (Some (Refused fault)) totals kind apart is = kind (Refused fault) refl
 of_base names (Some (OfJournal bad)) totals kind apart is = kind (OfJournal bad) refl
+of_base names (Some (NotLegal breach)) totals kind apart is = kind (NotLegal breach) refl
 of_base names (Some (Done found)) totals kind apart is = is
 of_base names (Some (Made parts)) totals kind apart is = is
 of_base names (Some (Tried trial)) totals kind apart is = is
+of_base names (Some (Legal entries)) totals kind apart is = is
 of_base names (Some NoMemory) totals kind apart is = is
 of_base names (Some (NotOpened name)) totals kind apart is = is
 of_base names (Some (NotWritten name)) totals kind apart is = is

@@ -1,5 +1,5 @@
 -- A replay: what its files hold, and what the console adds.
-use Rattle.std.proofs.Common.{◌≡◌, ◌≢◌, ℕ, List, [], Option, Some, Result, Ok, Err, refl, sym, ap, subst, ◌∙◌, inl, inr}
+use Rattle.std.proofs.Common.{◌≡◌, ℕ, List, [], Option, Some, Result, Ok, Err, refl, sym, ap, subst, ◌∙◌, inl, inr}
 use Rattle.std.specs.Prelude.{◌⊎◌, IsSome}
 use Rattle.plan_schema.specs.declared.change.Entry.{Entry}
 use Rattle.plan_schema.specs.declared.outside.SinkFault.{SinkFault}
@@ -9,28 +9,23 @@ use Rattle.plan_schema.specs.declared.outside.ShelfFault.TheVariants as shelves
 use Rattle.plan_schema.specs.Contents.{Contents}
 use Rattle.plan_schema.specs.Outside.{Rose, IsKeptOrEmpty, StaysBut, Stays, extended}
 use Rattle.plan_schema.proofs.Writes.{rose_after}
-use Rattle.plan_import.specs.declared.ImportFault.{ImportFault}
-use Rattle.plan_import.specs.declared.ImportFault.TheVariants as imports
-use Rattle.plan_import.specs.BaseFile.{base_of}
-use Rattle.plan_journal.specs.declared.fault.JournalFault.{JournalFault}
-use Rattle.plan_journal.specs.declared.fault.JournalFault.TheVariants as journals
-use Rattle.plan_journal.specs.Reading.{journal_read}
-use Rattle.plan_journal.proofs.JournalLaws.{read_alone}
 use Rattle.scenario_rules.specs.Journal.{IsLegal}
 use Rattle.sessions.specs.Serving.{IsWhole, IsShort}
 use Rattle.response_program.specs.declared.ending.Totals.{Totals}
+use Rattle.response_program.specs.declared.ending.BadJournal.{BadJournal}
 use Rattle.response_program.specs.declared.ending.BadJournal.TheVariants as bad_journals
 use Rattle.response_program.specs.Names.{Pair, console}
 use Rattle.response_program.specs.Views.{View, NoneFell}
-use Rattle.response_program.specs.Outcomes.{Outcome, Done, Made, Tried, OfJournal, NoMemory, Refused, NotOpened, NotRead, NotWritten, TooLong, HasCause, status_of, console_line, of_open, of_import, of_journal, and_written}
+use Rattle.response_program.specs.Outcomes.{Outcome, Done, Made, Tried, Legal, OfJournal, NotLegal, NoMemory, Refused, NotOpened, NotRead, NotWritten, TooLong, HasCause, status_of, console_line, of_open, and_written}
 use Rattle.response_program.specs.Desks.{IsUnopened, IsOpening}
 use Rattle.response_program.specs.Runs.{Tells}
 use Rattle.response_program.specs.Console.{HasTold}
-use Rattle.response_program.specs.Replayed.{ReplayNames, AreOfReplay, IsOfPair, AreUnchanging, IsSeen, IsSeenShort, Shows, HasShown, HoldsBase, HoldsJournal, IsRefusedAt, IsStopped, HasStopped, HasGoneOn, HasReplayedFiles, HasReplayed}
+use Rattle.response_program.specs.Histories.{HoldsBase, IsNoJournal, ReadsBase, ReadsJournal, IsNoBaseFor, IsNoJournalFor, IsNoHistory, IsHistoryUnread}
+use Rattle.response_program.specs.Replayed.{ReplayNames, AreOfReplay, IsOfPair, AreUnchanging, IsSeen, IsSeenShort, Shows, HasShown, IsBad, IsRefusedAt, IsStopped, HasStopped, HasGoneOn, HasReplayedFiles, HasReplayed}
 use Rattle.response_program.proofs.Chains.{same_fell, both_fell, cause_later, cause_after}
 use Rattle.response_program.proofs.Endings.{written_cause, written_told}
 use Rattle.response_program.proofs.Headline.{made_tells}
-use Rattle.response_program.proofs.Whole.{bytes_in}
+use Rattle.response_program.proofs.Histories.{holds_base, holds_journal}
 
 -- over a shelf on which nothing but the console changes, before and behind -----------------------------------------------------
 
@@ -62,9 +57,11 @@ module _ (old mid late new : View) (names : ReplayNames) (apart : AreOfReplay na
   shows_over contents entries (Done totals) h = whole_over contents entries totals h
   shows_over contents entries (Made parts) h = absurd h
   shows_over contents entries (Tried trial) h = absurd h
+  shows_over contents entries (Legal count) h = absurd h
   shows_over contents entries NoMemory h = tt
   shows_over contents entries (Refused fault) h = absurd h
   shows_over contents entries (OfJournal bad) h = absurd h
+  shows_over contents entries (NotLegal breach) h = absurd h
   shows_over contents entries (NotOpened name) h = (h.0, kept_over h.1)
   shows_over contents entries (NotRead name) h = (h.0, short_over contents entries h.1)
   shows_over contents entries (NotWritten name) (inl h) = inl (h.0, short_over contents entries h.1)
@@ -78,10 +75,12 @@ module _ (old mid late new : View) (names : ReplayNames) (apart : AreOfReplay na
   stopped_over (Done totals) h = absurd h
   stopped_over (Made parts) h = absurd h
   stopped_over (Tried trial) h = absurd h
+  stopped_over (Legal entries) h = absurd h
   stopped_over NoMemory h = tt
   stopped_over (Refused fault) h = record { base = h.base; held = sym (before names.base apart.base_console) ∙ h.held; read = h.read }
   stopped_over (OfJournal bad) h =
       record { contents = h.contents; base = base_over h.contents h.base; journal = h.journal; held = sym (before names.journal apart.journal_console) ∙ h.held; why = h.why }
+  stopped_over (NotLegal breach) h = absurd h
   stopped_over (NotOpened name) h = h
   stopped_over (NotRead name) h = h
   stopped_over (NotWritten name) h = absurd h
@@ -110,12 +109,6 @@ pub stops : (old new : View) (names : ReplayNames) (outcome : Outcome) → NoneF
 stops old new names outcome fell holds cause why =
     record { none_fell = fell; cause = cause; others = λ name output other. holds name; comes = λ tells. inl (record { why = why tells; kept = λ name other. holds name }) }
 
--- a file of it couldn't be opened
-pub not_opened : (old new : View) (names : ReplayNames) (name : List ℕ) (fault : ShelfFault) → NoneFell old new → Stays old.held new.held → (fault ≡ shelves.Failed → Rose (old.opens name) (new.opens name))
-    → IsStopped old new names (NotOpened name) → HasReplayedFiles old new names (of_open name fault)
-not_opened old new names name shelves.Failed fell holds rose which = stops old new names (NotOpened name) fell holds (rose refl) (λ tells. which)
-not_opened old new names name shelves.Memory fell holds rose which = stops old new names NoMemory fell holds tt (λ tells. tt)
-
 -- more follows behind what was read
 pub goes_on : (old mid new : View) (names : ReplayNames) (outcome : Outcome) → AreOfReplay names → NoneFell old mid → Stays old.held mid.held → HasReplayedFiles mid new names outcome → HasReplayedFiles old new names outcome
 goes_on old mid new names outcome apart fell holds h =
@@ -126,58 +119,56 @@ goes_on old mid new names outcome apart fell holds h =
       comes = λ tells. comes_over old mid new new names apart (λ name other. holds name) (λ name other. refl) outcome (h.comes (λ name. subst (λ held. IsSome held) (sym (holds name)) (tells name)));
     }
 
--- the base wasn't read
-pub no_base : (old late : View) (names : ReplayNames) (fault : ImportFault) → NoneFell old late → Stays old.held late.held → (fault ≡ imports.Read → Rose (old.reads names.base) (late.reads names.base))
-    → ((base : List ℕ) → old.held names.base ≡ Some base → fault ≢ imports.Read → fault ≢ imports.Memory → base_of base ≡ Err fault) → HasReplayedFiles old late names (of_import names.base fault)
-no_base old late names imports.Read fell holds cause refused = stops old late names (NotRead names.base) fell holds (cause refl) (λ tells. inl refl)
-no_base old late names imports.Memory fell holds cause refused = stops old late names NoMemory fell holds tt (λ tells. tt)
-no_base old late names (imports.Full room) fell holds cause refused =
-    stops old late names (Refused (imports.Full room)) fell holds tt (λ tells. (let base = bytes_in (tells names.base) in record { base = base.0; held = base.1; read = refused base.0 base.1 (λ is. cc) (λ is. cc) }))
-no_base old late names (imports.Row number fault) fell holds cause refused =
-    stops old late names (Refused (imports.Row number fault)) fell holds tt (λ tells. (let base = bytes_in (tells names.base) in record { base = base.0; held = base.1; read = refused base.0 base.1 (λ is. cc) (λ is. cc) }))
-no_base old late names (imports.Twice number) fell holds cause refused =
-    stops old late names (Refused (imports.Twice number)) fell holds tt (λ tells. (let base = bytes_in (tells names.base) in record { base = base.0; held = base.1; read = refused base.0 base.1 (λ is. cc) (λ is. cc) }))
-no_base old late names imports.NoPlan fell holds cause refused =
-    stops old late names (Refused imports.NoPlan) fell holds tt (λ tells. (let base = bytes_in (tells names.base) in record { base = base.0; held = base.1; read = refused base.0 base.1 (λ is. cc) (λ is. cc) }))
+-- the base or the journal wasn't read
+base_unread : (old new : View) (names : ReplayNames) (outcome : Outcome) → IsNoBaseFor old names.base outcome → IsStopped old new names outcome
+base_unread old new names (Done totals) h = absurd h
+base_unread old new names (Made parts) h = absurd h
+base_unread old new names (Tried trial) h = absurd h
+base_unread old new names (Legal entries) h = absurd h
+base_unread old new names (NotLegal breach) h = absurd h
+base_unread old new names NoMemory h = tt
+base_unread old new names (Refused fault) h = h
+base_unread old new names (OfJournal bad) h = absurd h
+base_unread old new names (NotOpened name) h = inr (inl h)
+base_unread old new names (NotRead name) h = inl h
+base_unread old new names (NotWritten name) h = absurd h
+base_unread old new names (TooLong session) h = absurd h
 
--- what a base that is held was read as
-abbrev pub ReadsBase : View → ReplayNames → Contents → Type 0
-ReadsBase old names contents = (base : List ℕ) → old.held names.base ≡ Some base → base_of base ≡ Ok contents
+bad_text : (contents : Contents) (text : List ℕ) (bad : BadJournal) → IsNoJournal text bad → IsBad contents text bad
+bad_text contents text (bad_journals.Form line) h = h
+bad_text contents text bad_journals.Large h = h
+bad_text contents text (bad_journals.Refused number) h = absurd h
 
-holds_base : (old : View) (names : ReplayNames) (contents : Contents) → ReadsBase old names contents → Tells old → HoldsBase old names.base contents
-holds_base old names contents reads tells = let base = bytes_in (tells names.base) in record { base = base.0; held = base.1; read = reads base.0 base.1 }
+journal_unread : (old new : View) (names : ReplayNames) (contents : Contents) (outcome : Outcome) → HoldsBase old names.base contents → IsNoJournalFor old names.journal outcome → IsStopped old new names outcome
+journal_unread old new names contents (Done totals) base h = absurd h
+journal_unread old new names contents (Made parts) base h = absurd h
+journal_unread old new names contents (Tried trial) base h = absurd h
+journal_unread old new names contents (Legal entries) base h = absurd h
+journal_unread old new names contents (NotLegal breach) base h = absurd h
+journal_unread old new names contents NoMemory base h = tt
+journal_unread old new names contents (Refused fault) base h = absurd h
+journal_unread old new names contents (OfJournal bad) base h =
+    record { contents = contents; base = base; journal = h.journal; held = h.held; why = bad_text contents h.journal bad h.why }
+journal_unread old new names contents (NotOpened name) base h = inr (inr h)
+journal_unread old new names contents (NotRead name) base h = inr h
+journal_unread old new names contents (NotWritten name) base h = absurd h
+journal_unread old new names contents (TooLong session) base h = absurd h
 
--- the journal wasn't read
-pub no_journal : (old late : View) (names : ReplayNames) (contents : Contents) (fault : JournalFault) → NoneFell old late → Stays old.held late.held
-    → (fault ≡ journals.Read → Rose (old.reads names.journal) (late.reads names.journal))
-    → ((text : List ℕ) → old.held names.journal ≡ Some text → fault ≢ journals.Read → fault ≢ journals.Memory → journal_read text ≡ Err fault) → ReadsBase old names contents
-    → HasReplayedFiles old late names (of_journal names.journal fault)
-no_journal old late names contents journals.Read fell holds cause refused reads = stops old late names (NotRead names.journal) fell holds (cause refl) (λ tells. inr refl)
-no_journal old late names contents journals.Memory fell holds cause refused reads = stops old late names NoMemory fell holds tt (λ tells. tt)
-no_journal old late names contents (journals.Form line) fell holds cause refused reads =
-    stops old late names (OfJournal (bad_journals.Form line)) fell holds tt (λ tells.
-    (let text = bytes_in (tells names.journal) in
-    record { contents = contents; base = holds_base old names contents reads tells; journal = text.0; held = text.1; why = refused text.0 text.1 (λ is. cc) (λ is. cc) }))
-no_journal old late names contents journals.Large fell holds cause refused reads =
-    stops old late names (OfJournal bad_journals.Large) fell holds tt (λ tells.
-    (let text = bytes_in (tells names.journal) in
-    record { contents = contents; base = holds_base old names contents reads tells; journal = text.0; held = text.1; why = refused text.0 text.1 (λ is. cc) (λ is. cc) }))
+either_unread : (old new : View) (names : ReplayNames) (outcome : Outcome) → IsNoHistory old names.base names.journal outcome → IsStopped old new names outcome
+either_unread old new names outcome (inl h) = base_unread old new names outcome h
+either_unread old new names outcome (inr h) = journal_unread old new names h.0.0 outcome h.0.1 h.1
 
--- what a journal that is held was read as
-abbrev pub ReadsJournal : View → ReplayNames → List Entry → Type 0
-ReadsJournal old names entries = (text : List ℕ) → old.held names.journal ≡ Some text → journal_read text ≡ Ok entries
-
-holds_journal : (old : View) (names : ReplayNames) (entries : List Entry) → ReadsJournal old names entries → Tells old → HoldsJournal old names.journal entries
-holds_journal old names entries reads tells =
-    let text = bytes_in (tells names.journal) in record { journal = text.0; held = text.1; text = (read_alone text.0 entries (reads text.0 text.1)).2 }
+pub no_history : (old new : View) (names : ReplayNames) (outcome : Outcome) → NoneFell old new → Stays old.held new.held → HasCause old new outcome → IsHistoryUnread old names.base names.journal outcome
+    → HasReplayedFiles old new names outcome
+no_history old new names outcome fell holds cause why = stops old new names outcome fell holds cause (λ tells. either_unread old new names outcome (why tells))
 
 -- an entry is refused
-pub refused_at : (shelf : View) (names : ReplayNames) (contents : Contents) (entries : List Entry) (number : ℕ) → IsRefusedAt contents entries number → ReadsBase shelf names contents → ReadsJournal shelf names entries
+pub refused_at : (shelf : View) (names : ReplayNames) (contents : Contents) (entries : List Entry) (number : ℕ) → IsRefusedAt contents entries number → ReadsBase shelf names.base contents → ReadsJournal shelf names.journal entries
     → HasReplayedFiles shelf shelf names (OfJournal (bad_journals.Refused number))
 refused_at shelf names contents entries number at base journal =
     stops shelf shelf names (OfJournal (bad_journals.Refused number)) (same_fell shelf) (λ name. refl) tt (λ tells.
-    (let text = holds_journal shelf names entries journal tells in
-    record { contents = contents; base = holds_base shelf names contents base tells; journal = text.journal; held = text.held; why = (entries, text.text, at) }))
+    (let text = holds_journal shelf names.journal entries journal tells in
+    record { contents = contents; base = holds_base shelf names.base contents base tells; journal = text.journal; held = text.held; why = (entries, text.text, at) }))
 
 -- there was no memory
 pub no_memory : (shelf : View) (names : ReplayNames) → HasReplayedFiles shelf shelf names NoMemory
@@ -185,7 +176,7 @@ no_memory shelf names = stops shelf shelf names NoMemory (same_fell shelf) (λ n
 
 -- the session was begun
 pub begins : (old new : View) (names : ReplayNames) (contents : Contents) (entries : List Entry) (outcome : Outcome) → IsLegal contents entries → HasShown old new names.pair contents entries outcome
-    → ReadsBase old names contents → ReadsJournal old names entries → HasReplayedFiles old new names outcome
+    → ReadsBase old names.base contents → ReadsJournal old names.journal entries → HasReplayedFiles old new names outcome
 begins old new names contents entries outcome legal h base journal =
     record {
       none_fell = h.none_fell;
@@ -193,9 +184,9 @@ begins old new names contents entries outcome legal h base journal =
       others = λ name output other. h.others name output;
       comes = λ tells. inr (record {
         contents = contents;
-        base = holds_base old names contents base tells;
+        base = holds_base old names.base contents base tells;
         entries = entries;
-        journal = holds_journal old names entries journal tells;
+        journal = holds_journal old names.journal entries journal tells;
         legal = legal;
         shows = h.shows tells;
       });
@@ -210,9 +201,11 @@ not_shown old new pair contents entries outcome h which =
     by_kind (Done totals) opening is = absurd opening
     by_kind (Made parts) opening is = absurd opening
     by_kind (Tried trial) opening is = absurd opening
+    by_kind (Legal entries) opening is = absurd opening
     by_kind NoMemory opening is = tt
     by_kind (Refused fault) opening is = absurd opening
     by_kind (OfJournal bad) opening is = absurd opening
+    by_kind (NotLegal breach) opening is = absurd opening
     by_kind (NotOpened name) opening is = (is, h.made.output)
     by_kind (NotRead name) opening is = absurd opening
     by_kind (NotWritten name) opening is = absurd opening
@@ -233,9 +226,11 @@ module _ (old new : View) (names : ReplayNames) where
   stopped_written (Done totals) (Err sinks.Failed) is = absurd is
   stopped_written (Made parts) (Err sinks.Failed) is = absurd is
   stopped_written (Tried trial) (Err sinks.Failed) is = absurd is
+  stopped_written (Legal entries) (Err sinks.Failed) is = absurd is
   stopped_written NoMemory (Err sinks.Failed) is = is
   stopped_written (Refused fault) (Err sinks.Failed) is = is
   stopped_written (OfJournal bad) (Err sinks.Failed) is = is
+  stopped_written (NotLegal breach) (Err sinks.Failed) is = is
   stopped_written (NotOpened name) (Err sinks.Failed) is = is
   stopped_written (NotRead name) (Err sinks.Failed) is = is
   stopped_written (NotWritten name) (Err sinks.Failed) is = is
@@ -248,9 +243,11 @@ module _ (old new : View) (names : ReplayNames) where
   shows_written contents entries (Done totals) (Err sinks.Failed) is = inr (refl, (totals, is))
   shows_written contents entries (Made parts) (Err sinks.Failed) is = absurd is
   shows_written contents entries (Tried trial) (Err sinks.Failed) is = absurd is
+  shows_written contents entries (Legal count) (Err sinks.Failed) is = absurd is
   shows_written contents entries NoMemory (Err sinks.Failed) is = is
   shows_written contents entries (Refused fault) (Err sinks.Failed) is = is
   shows_written contents entries (OfJournal bad) (Err sinks.Failed) is = is
+  shows_written contents entries (NotLegal breach) (Err sinks.Failed) is = is
   shows_written contents entries (NotOpened name) (Err sinks.Failed) is = is
   shows_written contents entries (NotRead name) (Err sinks.Failed) is = is
   shows_written contents entries (NotWritten name) (Err sinks.Failed) is = is

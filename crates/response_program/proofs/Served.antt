@@ -4,7 +4,7 @@ use Rattle.std.specs.List.{AllByRecursion}
 use Rattle.plan_schema.specs.Outside.{Rose}
 use Rattle.response_program.specs.Names.{Pair}
 use Rattle.response_program.specs.Views.{View}
-use Rattle.response_program.specs.Outcomes.{Outcome, Done, Made, Tried, OfJournal, NoMemory, Refused, NotOpened, NotRead, NotWritten, TooLong}
+use Rattle.response_program.specs.Outcomes.{Outcome, Done, Made, Tried, Legal, OfJournal, NotLegal, NoMemory, Refused, NotOpened, NotRead, NotWritten, TooLong}
 use Rattle.response_program.specs.Desks.{DeskView}
 use Rattle.response_program.specs.InRounds.{AreNamed}
 use Rattle.response_program.proofs.Opened.{AreFresh}
@@ -50,9 +50,11 @@ unfoldable pub IsOfDesk : Outcome → Type 0
 IsOfDesk (Done totals) = ⊥
 IsOfDesk (Made parts) = ⊥
 IsOfDesk (Tried trial) = ⊥
+IsOfDesk (Legal entries) = ⊥
 IsOfDesk NoMemory = Unit {0}
 IsOfDesk (Refused fault) = ⊥
 IsOfDesk (OfJournal bad) = ⊥
+IsOfDesk (NotLegal breach) = ⊥
 IsOfDesk (NotOpened name) = ⊥
 IsOfDesk (NotRead name) = Unit {0}
 IsOfDesk (NotWritten name) = Unit {0}

@@ -27,7 +27,7 @@ use Rattle.desk_rounds.proofs.Tally.{count-cons, count-append}
 use Rattle.response_program.specs.declared.ending.Totals.{Totals}
 use Rattle.response_program.specs.Names.{console}
 use Rattle.response_program.specs.Views.{View, NoneFell}
-use Rattle.response_program.specs.Outcomes.{Outcome, Done, Made, Tried, OfJournal, NoMemory, Refused, NotOpened, NotRead, NotWritten, TooLong, HasCause, status_of, console_line, of_open, and_written}
+use Rattle.response_program.specs.Outcomes.{Outcome, Done, Made, Tried, Legal, OfJournal, NotLegal, NoMemory, Refused, NotOpened, NotRead, NotWritten, TooLong, HasCause, status_of, console_line, of_open, and_written}
 use Rattle.response_program.specs.Desks.{session_of}
 use Rattle.response_program.specs.Runs.{Tells}
 use Rattle.response_program.specs.Console.{HasTold}
@@ -155,12 +155,15 @@ trial_written parts base input outcome (Err sinks.Memory) is = tt
 trial_written parts base input (Done totals) written is = absurd is
 trial_written parts base input (Made count) written is = absurd is
 trial_written parts base input (Tried trial) (Ok done) is = is
+trial_written parts base input (Legal entries) (Ok done) is = is
 trial_written parts base input (Tried trial) (Err sinks.Failed) is = (refl, (trial, is))
+trial_written parts base input (Legal entries) (Err sinks.Failed) is = absurd is
 trial_written parts base input NoMemory (Ok done) is = is
 trial_written parts base input NoMemory (Err sinks.Failed) is = is
 trial_written parts base input (Refused fault) (Ok done) is = is
 trial_written parts base input (Refused fault) (Err sinks.Failed) is = is
 trial_written parts base input (OfJournal bad) written is = absurd is
+trial_written parts base input (NotLegal breach) written is = absurd is
 trial_written parts base input (NotOpened name) written is = absurd is
 trial_written parts base input (NotRead name) written is = absurd is
 trial_written parts base input (NotWritten name) written is = absurd is
@@ -172,9 +175,11 @@ no_cause : (old new : View) (parts : ℕ) (base input : List ℕ) (outcome : Out
 no_cause old new parts base input (Done totals) is = tt
 no_cause old new parts base input (Made count) is = tt
 no_cause old new parts base input (Tried trial) is = tt
+no_cause old new parts base input (Legal entries) is = tt
 no_cause old new parts base input NoMemory is = tt
 no_cause old new parts base input (Refused fault) is = tt
 no_cause old new parts base input (OfJournal bad) is = tt
+no_cause old new parts base input (NotLegal breach) is = tt
 no_cause old new parts base input (NotOpened name) is = absurd is
 no_cause old new parts base input (NotRead name) is = absurd is
 no_cause old new parts base input (NotWritten name) is = absurd is

@@ -7,7 +7,10 @@ pub mod Outcomes
 pub mod Desks
 pub mod InRounds
 pub mod Runs
+pub mod Histories
 pub mod Replayed
+pub mod Written
+pub mod Audited
 pub mod Tried
 pub mod Responses
 pub use Rattle.plan_schema.specs.Outside

@@ -6,6 +6,7 @@ use Rattle.program_words.specs.Rounds.{all_pairs}
 use Rattle.program_words.specs.declared.program.RunWords.{RunWords}
 use Rattle.response_program.specs.declared.files.Pair.{Pair as PairWords}
 use Rattle.response_program.specs.declared.files.RunFiles.{RunFiles}
+use Rattle.response_program.specs.declared.files.Auditing.{Auditing}
 
 -- the base, the journal, the pairs in the order of their sessions, and the same in rounds
 pub record Names : Type 0 where
@@ -22,6 +23,13 @@ names_of run = record { base = run.base; journal = run.journal; pairs = all_pair
 
 abbrev pub files_of : RunFiles → Names
 files_of files = record { base = files.base.now; journal = files.journal.now; pairs = all_pairs files.rounds.now; rounds = files.rounds.now }
+
+-- those of a run that is audited, and the names that the words give
+abbrev pub names_to_audit : List ℕ → List ℕ → List (List Pair) → Names
+names_to_audit base journal rounds = record { base = base; journal = journal; pairs = all_pairs rounds; rounds = rounds }
+
+abbrev pub audited_names : Auditing → Names
+audited_names words = names_to_audit words.base words.journal words.rounds
 
 -- the console's name
 abbrev pub console : List ℕ
@@ -50,3 +58,9 @@ pub record Differ (names : Names) : Type 0 where
   pub no_console : AllByRecursion (IsApart console) names.pairs
   pub no_input : AllByRecursion (IsNoInput names.pairs) names.pairs
   pub outputs : AreOutputsApart names.pairs
+
+-- no file of a run is the console
+pub record NoConsole (names : Names) : Type 0 where
+  pub base : names.base ≢ console
+  pub journal : names.journal ≢ console
+  pub pairs : AllByRecursion (IsApart console) (all_pairs names.rounds)

@@ -17,8 +17,15 @@ use Rattle.plan_journal.specs.declared.fault.JournalFault.TheVariants as journal
 use Rattle.plan_make.specs.declared.fault.MakeFault.{MakeFault}
 use Rattle.plan_make.specs.declared.fault.MakeFault.TheVariants as makes
 use Rattle.plan_walk.specs.declared.round.Tally.{Tally}
+use Rattle.plan_audit.specs.declared.verdict.AuditRule.{AuditRule}
+use Rattle.plan_audit.specs.declared.verdict.AuditRule.TheVariants as rules
+use Rattle.plan_audit.specs.declared.verdict.Verdict.{Verdict}
+use Rattle.plan_audit.specs.declared.verdict.Verdict.TheVariants as verdicts
+use Rattle.plan_audit.specs.declared.auditing.AuditFault.{AuditFault}
+use Rattle.plan_audit.specs.declared.auditing.AuditFault.TheVariants as audits
 use Rattle.response_program.specs.declared.ending.Totals.{Totals}
 use Rattle.response_program.specs.declared.ending.Trial.{Trial}
+use Rattle.response_program.specs.declared.ending.Breach.{Breach}
 use Rattle.response_program.specs.declared.ending.BadJournal.{BadJournal}
 use Rattle.response_program.specs.declared.ending.BadJournal.TheVariants as bad_journals
 use Rattle.response_program.specs.declared.ending.Ending.{Ending}
@@ -26,13 +33,15 @@ use Rattle.response_program.specs.declared.ending.Ending.TheVariants as endings
 use Rattle.response_program.specs.Names.{Pair}
 use Rattle.response_program.specs.Views.{View}
 
--- everything ended, with these totals; a base and an input of so many parts are made; such were made and served without files; there was
--- no memory, or no turn was left; the base is refused; the journal can't be replayed; a file can't be opened, read or written; the input
+-- everything ended, with these totals; a base and an input of so many parts are made; such were made and served without files; a run is
+-- legal, and its journal has so many entries; a run isn't legal; there was no memory, or no turn was left; the base is refused; the journal can't be replayed; a file can't be opened, read or written; the input
 -- of the session with this number is too long
 pub data Outcome : Type 0 where
   Done : Totals → Outcome
   Made : ℕ → Outcome
   Tried : Trial → Outcome
+  Legal : ℕ → Outcome
+  NotLegal : Breach → Outcome
   NoMemory : Outcome
   Refused : ImportFault → Outcome
   OfJournal : BadJournal → Outcome
@@ -45,6 +54,8 @@ abbrev pub outcome_of : Ending → Outcome
 outcome_of (endings.Done totals) = Done totals
 outcome_of (endings.Made parts) = Made parts
 outcome_of (endings.Tried trial) = Tried trial
+outcome_of (endings.Legal entries) = Legal entries
+outcome_of (endings.NotLegal breach) = NotLegal breach
 outcome_of endings.Memory = NoMemory
 outcome_of (endings.Base fault) = Refused fault
 outcome_of (endings.Journal bad) = OfJournal bad
@@ -58,6 +69,7 @@ abbrev pub status_of : Outcome → ℕ
 status_of (Done totals) = 0
 status_of (Made parts) = 0
 status_of (Tried trial) = 0
+status_of (Legal entries) = 0
 status_of NoMemory = 1
 status_of (Refused fault) = 3
 status_of (NotOpened name) = 4
@@ -65,6 +77,7 @@ status_of (NotRead name) = 5
 status_of (NotWritten name) = 6
 status_of (TooLong session) = 7
 status_of (OfJournal bad) = 9
+status_of (NotLegal breach) = 9
 
 -- why a base is refused
 abbrev pub base_words : ImportFault → List (List ℕ)
@@ -89,11 +102,23 @@ work_words (Some work) =
 abbrev pub totals_words : Totals → List (List ℕ)
 totals_words totals = codes "entries" ∷ decimal totals.entries ∷ work_words totals.work
 
+-- the word of a rule of legal runs
+abbrev pub audit_word : AuditRule → List ℕ
+audit_word rules.Short = codes "short"
+audit_word rules.Form = codes "form"
+audit_word rules.Point = codes "point"
+audit_word rules.Entry = codes "entry"
+audit_word rules.Answer = codes "answer"
+audit_word rules.Extra = codes "extra"
+audit_word rules.Lost = codes "lost"
+
 -- the console's line
 abbrev pub line_words : Outcome → List (List ℕ)
 line_words (Done totals) = totals_words totals
 line_words (Made parts) = codes "parts" ∷ decimal parts ∷ []
 line_words (Tried trial) = codes "parts" ∷ decimal trial.parts ∷ codes "requests" ∷ decimal trial.requests ∷ totals_words trial.totals
+line_words (Legal entries) = codes "legal" ∷ decimal entries ∷ []
+line_words (NotLegal breach) = codes "not-legal" ∷ decimal breach.session ∷ decimal breach.line ∷ audit_word breach.rule ∷ []
 line_words NoMemory = codes "memory" ∷ []
 line_words (Refused fault) = codes "base" ∷ base_words fault
 line_words (OfJournal bad) = journal_words bad
@@ -162,6 +187,7 @@ abbrev pub first_of_two : Outcome → List ℕ → Outcome
 first_of_two (Done totals) name = NotWritten name
 first_of_two (Made parts) name = NotWritten name
 first_of_two (Tried trial) name = NotWritten name
+first_of_two (Legal entries) name = NotWritten name
 first_of_two outcome name = outcome
 
 abbrev pub and_written : Outcome → List ℕ → Result (Unit {0}) SinkFault → Outcome
@@ -174,3 +200,21 @@ abbrev pub of_make : ℕ → List ℕ → List ℕ → Result (Unit {0}) MakeFau
 of_make parts base input (Ok done) = Made parts
 of_make parts base input (Err (makes.Base fault)) = and_written (Made parts) base (Err fault)
 of_make parts base input (Err (makes.Input fault)) = and_written (Made parts) input (Err fault)
+
+-- what a verdict on a run with so many entries comes to
+abbrev pub of_verdict : Verdict → ℕ → Outcome
+of_verdict verdicts.Legal entries = Legal entries
+of_verdict (verdicts.Journal entry) entries = OfJournal (bad_journals.Refused entry)
+of_verdict (verdicts.NotLegal session line rule) entries = NotLegal (record { session = session; line = line; rule = rule })
+
+-- a source that failed, if one did
+abbrev pub of_unread : Option (List ℕ) → Outcome
+of_unread None = NoMemory
+of_unread (Some name) = NotRead name
+
+-- what an audit of a run with so many entries comes to, where the first source that failed, if one did, bears this name
+abbrev pub of_audit : Result Verdict AuditFault → ℕ → Option (List ℕ) → Outcome
+of_audit (Ok verdict) entries unread = of_verdict verdict entries
+of_audit (Err (audits.Limit session)) entries unread = TooLong session
+of_audit (Err audits.Memory) entries unread = NoMemory
+of_audit (Err audits.Read) entries unread = of_unread unread

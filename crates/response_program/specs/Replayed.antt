@@ -1,15 +1,11 @@
 -- What a replay comes to: a session behind a journal, which may change nothing. The promise that its users rely on.
-use Rattle.std.specs.Prelude.{◌≡◌, ◌≢◌, ◌⊎◌, ℕ, ◌+◌, false, true, List, [], length, is_some, Some, Ok, Err}
+use Rattle.std.specs.Prelude.{◌≡◌, ◌≢◌, ◌⊎◌, ℕ, ◌+◌, false, true, List, [], length, is_some, Some}
 use Rattle.std.specs.List.{AllByRecursion}
 use Rattle.plan_schema.specs.declared.change.Entry.{Entry}
 use Rattle.plan_schema.specs.declared.refusal.Refusal.{Refusal}
 use Rattle.plan_schema.specs.Contents.{Contents}
 use Rattle.plan_schema.specs.Outside.{Rose, IsKeptOrEmpty, StaysBut}
-use Rattle.plan_import.specs.declared.ImportFault.{ImportFault}
-use Rattle.plan_import.specs.BaseFile.{base_of}
 use Rattle.plan_journal.specs.Laws.{IsTextOf}
-use Rattle.plan_journal.specs.Reading.{journal_read}
-use Rattle.plan_journal.specs.declared.fault.JournalFault.TheVariants as faults
 use Rattle.command_words.specs.declared.reply.Reply.{Reply}
 use Rattle.scenario_rules.specs.Journal.{IsLegal}
 use Rattle.session_rules.specs.Requests.{Request, guest}
@@ -25,6 +21,7 @@ use Rattle.response_program.specs.Names.{Pair, pair_of, console}
 use Rattle.response_program.specs.Views.{View, NoneFell}
 use Rattle.response_program.specs.Outcomes.{Outcome, Done, NoMemory, Refused, OfJournal, NotOpened, NotRead, NotWritten, TooLong, HasCause, status_of, console_line}
 use Rattle.response_program.specs.Runs.{Tells}
+use Rattle.response_program.specs.Histories.{HoldsBase, HoldsNoBase, HoldsJournal, IsNoJournal}
 
 -- the files of a replay: the base, the journal, and those of its session
 pub record ReplayNames : Type 0 where
@@ -98,24 +95,6 @@ module _ (old new : View) (pair : Pair) (contents : Contents) (entries : List En
 
 -- the base and the journal ---------------------------------------------------------------------------------------------------
 
--- what a name holds reads to contents
-pub record HoldsBase (shelf : View) (name : List ℕ) (contents : Contents) : Type 0 where
-  pub base : List ℕ
-  pub held : shelf.held name ≡ Some base
-  pub read : base_of base ≡ Ok contents
-
--- it is no base, for this fault
-pub record HoldsNoBase (shelf : View) (name : List ℕ) (fault : ImportFault) : Type 0 where
-  pub base : List ℕ
-  pub held : shelf.held name ≡ Some base
-  pub read : base_of base ≡ Err fault
-
--- it is the text of entries, in the one version or the other
-pub record HoldsJournal (shelf : View) (name : List ℕ) (entries : List Entry) : Type 0 where
-  pub journal : List ℕ
-  pub held : shelf.held name ≡ Some journal
-  pub text : IsTextOf journal entries
-
 -- the entry with a number is the first that is refused
 pub record IsRefusedAt (contents : Contents) (entries : List Entry) (number : ℕ) : Type 0 where
   pub point : ℕ
@@ -125,9 +104,8 @@ pub record IsRefusedAt (contents : Contents) (entries : List Entry) (number : �
 
 -- why a text is no journal that can be replayed over contents
 abbrev pub IsBad : Contents → List ℕ → BadJournal → Type 0
-IsBad contents text (bad_journals.Form line) = journal_read text ≡ Err (faults.Form line)
-IsBad contents text bad_journals.Large = journal_read text ≡ Err faults.Large
 IsBad contents text (bad_journals.Refused number) = (entries : List Entry) × IsTextOf text entries × IsRefusedAt contents entries number
+IsBad contents text bad = IsNoJournal text bad
 
 pub record HoldsBadJournal (shelf : View) (names : ReplayNames) (bad : BadJournal) : Type 0 where
   pub contents : Contents

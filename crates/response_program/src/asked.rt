@@ -1,7 +1,8 @@
 //! What a command line asks for, of what is served.
 ghost use Rattle.std.specs.Prelude.{◌≡◌};
-ghost use Rattle.response_program.specs.Words.{served_by};
+ghost use Rattle.response_program.specs.Words.{served_by, still_asked};
 
+use crate::files::Auditing;
 use crate::making::Making;
 use crate::replay::Replaying;
 use program_words::{Program, RunWords, Still};
@@ -13,6 +14,8 @@ pub enum Asked<'a> {
     Run(RunWords<'a>),
     /// A base and an input.
     Make(Making<'a>),
+    /// Whether a run is legal.
+    Audit(Auditing<'a>),
     /// A session behind a journal.
     Replay(Replaying<'a>),
     /// A base and an input of so many parts from a start, served without files.
@@ -26,33 +29,48 @@ impl<'a> Asked<'a> {
     {
         match program {
             Program::Run(run) => Some(Asked::Run(run)),
-            Program::Still(still) => match still {
-                Still::Make {
-                    parts,
-                    start,
-                    base,
-                    input,
-                } => Some(Asked::Make(Making {
-                    parts,
-                    start,
-                    base,
-                    input,
-                })),
-                Still::Replay {
-                    base,
-                    journal,
-                    input,
-                    output,
-                } => Some(Asked::Replay(Replaying {
-                    base,
-                    journal,
-                    input,
-                    output,
-                })),
-                Still::Trial { parts, start } => Some(Asked::Trial(parts, start)),
-                _other => None,
-            },
+            Program::Still(still) => Some(Asked::of_still(still)),
             Program::Keep(_keep) => None,
+        }
+    }
+
+    /// The same, where it serves no sessions that write a journal: all of it is served.
+    fn of_still(still: Still<'a>) -> Asked<'a>
+        ensures { result ≡ still_asked still.entry }
+    {
+        match still {
+            Still::Audit {
+                base,
+                journal,
+                rounds,
+            } => Asked::Audit(Auditing {
+                base,
+                journal,
+                rounds,
+            }),
+            Still::Replay {
+                base,
+                journal,
+                input,
+                output,
+            } => Asked::Replay(Replaying {
+                base,
+                journal,
+                input,
+                output,
+            }),
+            Still::Make {
+                parts,
+                start,
+                base,
+                input,
+            } => Asked::Make(Making {
+                parts,
+                start,
+                base,
+                input,
+            }),
+            Still::Trial { parts, start } => Asked::Trial(parts, start),
         }
     }
 }

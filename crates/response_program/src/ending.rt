@@ -1,5 +1,7 @@
 //! How a command ends.
 ghost use Rattle.std.specs.Prelude.{◌≡◌, ◌≢◌, ◌≤◌, ◌+◌, ◌∷◌, ◌++◌, [], length, option_map, unwrap_or};
+ghost use Rattle.std.specs.Prelude.{Err, IsSome};
+ghost use Rattle.plan_audit.specs.declared.auditing.AuditFault.TheVariants as audits;
 ghost use Rattle.row_text.specs.Spelling.{spaced};
 ghost use Rattle.plan_schema.specs.Outside.{Wrote};
 ghost use Rattle.response_program.specs.Outcomes as spec;
@@ -10,6 +12,7 @@ ghost use Rattle.arrayvec.specs.ArrayVec.{array_vec_len};
 use crate::files::Pair;
 use byte_lines::{Served, ShelfFault, Sink, SinkFault, write_all};
 use command_words::{room_bytes, rule_bytes};
+use plan_audit::{AuditFault, AuditRule, Verdict};
 use plan_import::ImportFault;
 use plan_journal::JournalFault;
 use plan_make::MakeFault;
@@ -42,6 +45,14 @@ pub enum BadJournal {
     Refused(u64),
 }
 
+/// The first fault of a run that isn't legal: a session, the line of a request, and the rule that its reply breaks.
+#[derive(Clone, Copy)]
+pub struct Breach {
+    pub session: u64,
+    pub line: u64,
+    pub rule: AuditRule,
+}
+
 /// How a command ends, with the name of the file that failed.
 #[derive(Clone, Copy)]
 pub enum Ending<'a> {
@@ -50,6 +61,10 @@ pub enum Ending<'a> {
     Made(u32),
     /// A base and an input were made and served without files.
     Tried(Trial),
+    /// A run is legal, and its journal has so many entries.
+    Legal(u64),
+    /// A run isn't legal.
+    NotLegal(Breach),
     /// There was no memory, or no turn was left.
     Memory,
     Base(ImportFault),
@@ -136,6 +151,46 @@ impl<'a> Ending<'a> {
         }
     }
 
+    /// What an audit of a run with so many entries comes to, where the first source that failed, if one did, bears this name.
+    pub fn of_audit(
+        found: Result<Verdict, AuditFault>,
+        entries: u64,
+        unread: Option<&'a str>,
+    ) -> Ending<'a>
+        requires { found ≡ Err audits.Read → IsSome unread }
+        ensures { outcome_of result
+            ≡ spec.of_audit found entries (option_map (λ name. name.now) unread.entry) }
+    {
+        match found {
+            Ok(verdict) => Ending::of_verdict(verdict, entries),
+            Err(AuditFault::Limit(session)) => Ending::Limit(session),
+            Err(AuditFault::Memory) => Ending::Memory,
+            Err(AuditFault::Read) => match unread {
+                Some(name) => Ending::Read(name),
+                None => unreachable!(),
+            },
+        }
+    }
+
+    /// What a verdict on a run with so many entries comes to.
+    fn of_verdict(verdict: Verdict, entries: u64) -> Ending<'a>
+        ensures { outcome_of result ≡ spec.of_verdict verdict entries }
+    {
+        match verdict {
+            Verdict::Legal => Ending::Legal(entries),
+            Verdict::Journal(entry) => Ending::Journal(BadJournal::Refused(entry)),
+            Verdict::NotLegal {
+                session,
+                line,
+                rule,
+            } => Ending::NotLegal(Breach {
+                session,
+                line,
+                rule,
+            }),
+        }
+    }
+
     /// The ending after something more was written under a name. Want of memory tops all; else the first fault stays.
     pub fn and_written(self, name: &'a str, written: Result<(), SinkFault>) -> Ending<'a>
         ensures { outcome_of result ≡ spec.and_written (outcome_of self.entry) name.now written }
@@ -144,7 +199,9 @@ impl<'a> Ending<'a> {
             Ok(()) => self,
             Err(SinkFault::Memory) => Ending::Memory,
             Err(SinkFault::Failed) => match self {
-                Ending::Done(_) | Ending::Made(_) | Ending::Tried(_) => Ending::Write(name),
+                Ending::Done(_) | Ending::Made(_) | Ending::Tried(_) | Ending::Legal(_) => {
+                    Ending::Write(name)
+                }
                 ending => ending,
             },
         }
@@ -156,14 +213,14 @@ impl<'a> Ending<'a> {
         ensures known { result ≢ 2 }
     {
         match self {
-            Ending::Done(_) | Ending::Made(_) | Ending::Tried(_) => 0,
+            Ending::Done(_) | Ending::Made(_) | Ending::Tried(_) | Ending::Legal(_) => 0,
             Ending::Memory => 1,
             Ending::Base(_) => 3,
             Ending::Open(_) => 4,
             Ending::Read(_) => 5,
             Ending::Write(_) => 6,
             Ending::Limit(_) => 7,
-            Ending::Journal(_) => 9,
+            Ending::Journal(_) | Ending::NotLegal(_) => 9,
         }
     }
 
@@ -176,6 +233,8 @@ impl<'a> Ending<'a> {
             Ending::Done(totals) => write_all(console, done_line(totals).as_slice()),
             Ending::Made(parts) => write_all(console, made_line(*parts).as_slice()),
             Ending::Tried(trial) => write_all(console, trial_line(trial).as_slice()),
+            Ending::Legal(entries) => write_all(console, legal_line(*entries).as_slice()),
+            Ending::NotLegal(breach) => write_all(console, breach_line(breach).as_slice()),
             Ending::Memory => write_all(console, b"memory\n"),
             Ending::Base(fault) => write_all(console, base_line(*fault).as_slice()),
             Ending::Journal(bad) => write_all(console, journal_line(*bad).as_slice()),
@@ -252,6 +311,46 @@ fn trial_line(trial: &Trial) -> RowText
     push_work(&mut text, trial.totals.work);
     let _ = text.try_push(b'\n');
     text
+}
+
+/// The line of a legal run.
+fn legal_line(entries: u64) -> RowText
+    ensures { result.items ≡ spec.console_line (spec.Legal entries) }
+{
+    let mut text = RowText::new();
+    let _ = text.try_extend_from_slice(b"legal");
+    push_number(&mut text, entries);
+    let _ = text.try_push(b'\n');
+    text
+}
+
+/// The line of a run that isn't legal.
+fn breach_line(breach: &Breach) -> RowText
+    ensures { result.items ≡ spec.console_line (spec.NotLegal breach.now) }
+{
+    let mut text = RowText::new();
+    let _ = text.try_extend_from_slice(b"not-legal");
+    push_number(&mut text, breach.session);
+    push_number(&mut text, breach.line);
+    push_word(&mut text, audit_bytes(breach.rule));
+    let _ = text.try_push(b'\n');
+    text
+}
+
+/// The word of a rule of legal runs.
+fn audit_bytes(rule: AuditRule) -> &'static [u8]
+    ensures word { result.now ≡ spec.audit_word rule }
+    ensures len { length result.now ≤ 6 }
+{
+    match rule {
+        AuditRule::Short => b"short",
+        AuditRule::Form => b"form",
+        AuditRule::Point => b"point",
+        AuditRule::Entry => b"entry",
+        AuditRule::Answer => b"answer",
+        AuditRule::Extra => b"extra",
+        AuditRule::Lost => b"lost",
+    }
 }
 
 /// The line for a journal that can't be replayed.

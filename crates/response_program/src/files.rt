@@ -1,9 +1,9 @@
 //! The files of a run, by name.
 ghost use Rattle.std.specs.Prelude.{◌≡◌};
 ghost use Rattle.program_words.specs.Rounds as words;
-ghost use Rattle.response_program.specs.Names.{pair_of, files_of, names_of};
+ghost use Rattle.response_program.specs.Names.{pair_of, files_of, names_of, audited_names};
 
-use program_words::{Pairs, PlacedPair, RunWords};
+use program_words::{Pairs, PlacedPair, RunWords, Word};
 
 /// The names of a session's files.
 #[derive(Clone, Copy)]
@@ -43,4 +43,23 @@ impl<'p, 'a> RunFiles<'p, 'a> {
             rounds: &run.rounds,
         }
     }
+
+    /// The names that a command line gives of a run that is audited.
+    pub fn to_audit(words: &'p Auditing<'a>) -> RunFiles<'p, 'a>
+        ensures { files_of result ≡ audited_names words.entry.now }
+    {
+        RunFiles {
+            base: words.base.as_str(),
+            journal: words.journal.as_str(),
+            rounds: &words.rounds,
+        }
+    }
+}
+
+/// The words of `audit`: the names of the files of the run that is audited.
+#[derive(Drop)]
+pub struct Auditing<'a> {
+    pub base: Word<'a>,
+    pub journal: Word<'a>,
+    pub rounds: Pairs<'a>,
 }

@@ -171,7 +171,7 @@ fn fill_rounds<'a, S: Source + Drop, K: Sink + Drop>(
 }
 
 /// Puts a desk into the last round, which it may begin. Where there is no memory for it, it is let go.
-fn seat_desk<S: Drop, K: Drop>(
+pub fn seat_desk<S: Drop, K: Drop>(
     desk: Desk<S, K>,
     begins: bool,
     rounds: &mut Rounds<S, K>,
@@ -228,9 +228,20 @@ fn first_or_memory<'a>(earlier: Option<Ending<'a>>, later: Option<Ending<'a>>) -
     ensures { option_map outcome_of result ≡ outcomes.first_or_memory
         (option_map outcome_of earlier.entry) (option_map outcome_of later.entry) }
 {
-    match later {
-        Some(Ending::Memory) => later,
-        _ => earlier.or(later),
+    if is_memory(&later) {
+        later
+    } else {
+        earlier.or(later)
+    }
+}
+
+/// Whether a session stopped for want of memory.
+fn is_memory(stop: &Option<Ending<'_>>) -> bool
+    ensures { result ≡ outcomes.is_memory (option_map outcome_of stop.now) }
+{
+    match stop {
+        Some(Ending::Memory) => true,
+        _ => false,
     }
 }
 

@@ -15,11 +15,11 @@ use crate::console::{CONSOLE, tell_ending};
 use crate::desk::{OpenDesk, close_desk, open_desk};
 use crate::ending::{BadJournal, Ending, Totals};
 use crate::files::Pair;
+use crate::history::{History, read_history};
 use byte_lines::Shelf;
 use plan_book::{Book, PlanBook};
 use plan_core::BehindFault;
-use plan_import::import;
-use plan_journal::{Journal, read_journal};
+use plan_journal::Journal;
 use plan_schema::Contents;
 use program_words::{MEMO_DEFAULT, Word};
 use sessions::serve_alone;
@@ -74,49 +74,18 @@ pub fn replay_told<H: Shelf>(alloc: Global, files: &ReplayFiles<'_>, shelf: &mut
     tell_ending(ending, console, shelf)
 }
 
-/// Reads the base, and replays a journal over it.
+/// Reads the base and the journal, and serves a session behind the journal's entries.
 fn replay<'a, H: Shelf>(alloc: Global, files: &ReplayFiles<'a>, shelf: &mut H) -> Ending<'a>
     requires { AreOfReplay (replay_of files.now) }
     ensures { HasReplayedFiles (view H.held H.open_faults H.read_faults H.write_faults shelf.old)
         (view H.held H.open_faults H.read_faults H.write_faults shelf.new) (replay_of files.now)
         (outcome_of result) }
 {
-    let mut source = match shelf.open_in(files.base) {
-        Ok(source) => source,
-        Err(fault) => return Ending::of_open(files.base, fault),
-    };
-    let imported = import(alloc, &mut source);
-    shelf.give_in(files.base, source);
-    match imported {
-        Ok(contents) => replay_over(alloc, files, contents, shelf),
-        Err(fault) => Ending::of_import(files.base, fault),
-    }
-}
-
-/// Reads the journal, and serves a session behind its entries.
-fn replay_over<'a, H: Shelf>(
-    alloc: Global,
-    files: &ReplayFiles<'a>,
-    contents: Contents,
-    shelf: &mut H,
-) -> Ending<'a>
-    requires files { AreOfReplay (replay_of files.now) }
-    requires base { is_base contents ≡ true }
-    ensures { ((base : List ℕ) → H.held shelf.old files.now.base.now ≡ Some base
-        → base_of base ≡ Ok contents)
-        → HasReplayedFiles (view H.held H.open_faults H.read_faults H.write_faults shelf.old)
-        (view H.held H.open_faults H.read_faults H.write_faults shelf.new) (replay_of files.now)
-        (outcome_of result) }
-{
-    let mut source = match shelf.open_in(files.journal) {
-        Ok(source) => source,
-        Err(fault) => return Ending::of_open(files.journal, fault),
-    };
-    let read = read_journal(alloc, &mut source);
-    shelf.give_in(files.journal, source);
-    match read {
-        Ok(journal) => replay_behind(alloc, files, contents, &journal, shelf),
-        Err(fault) => Ending::of_journal(files.journal, fault),
+    match read_history(alloc, files.base, files.journal, shelf) {
+        Ok(History { contents, journal }) => {
+            replay_behind(alloc, files, contents, &journal, shelf)
+        }
+        Err(ending) => ending,
     }
 }
 

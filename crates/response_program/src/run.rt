@@ -9,7 +9,8 @@ ghost use Rattle.program_words.specs.declared.program.RunWords.{RunWords as Run}
 ghost use Rattle.program_words.specs.declared.rounds.TheConstants.{PAIR_LIMIT};
 ghost use Rattle.program_words.specs.Rounds.{pair_of, rounds_in};
 ghost use Rattle.program_words.specs.Words.{program_of};
-ghost use Rattle.response_program.specs.Names.{Differ, files_of, names_of};
+ghost use Rattle.response_program.specs.Names.{Pair, Differ, files_of, names_of, names_to_audit};
+ghost use Rattle.response_program.specs.Audited.{HasAudited};
 ghost use Rattle.response_program.specs.Desks.{HasServedAll, HasServedNone};
 ghost use Rattle.response_program.specs.InRounds.{HasServedRounds, HasServedRun};
 ghost use Rattle.response_program.specs.Runs.{HasRun, HasRunBook, HasRunOver, AreTotals};
@@ -22,6 +23,7 @@ ghost use Rattle.response_program.specs.Tried.{HasTried};
 ghost use Rattle.response_program.specs.Responses.{HasResponded, HasRefused};
 
 use crate::asked::Asked;
+use crate::audit::audit_told;
 use crate::console::{CONSOLE, tell_ending};
 use crate::desks::{close_desks, open_all, serve_desks};
 use crate::ending::{Ending, Totals};
@@ -48,7 +50,7 @@ const NO_MEMORY: u8 = 1;
 
 /// Does what the words ask for with the files of a shelf, tells the console how it ended, and answers the status: 0 where all ended,
 /// 1 for want of memory, 2 where the words aren't the program's, 3 where the base is refused, 4, 5 and 6 where a file couldn't be
-/// opened, read and written, 7 where the input passed its limit, and 9 where a journal can't be replayed. Sessions of a round wait for
+/// opened, read and written, 7 where the input passed its limit, and 9 where a journal can't be replayed or a run isn't legal. Sessions of a round wait for
 /// each other's turns.
 pub fn response<H: Shelf, R: Threads + Wait + Sync>(
     rt: &R,
@@ -63,6 +65,12 @@ where
         → program_of (map string_bytes words.now) ≡ Some (program.Run run)
         → HasResponded (view H.held H.open_faults H.read_faults H.write_faults shelf.old)
         (view H.held H.open_faults H.read_faults H.write_faults shelf.new) (names_of run) result }
+    ensures audit { (base journal : List ℕ) (rounds : List (List Pair))
+        → program_of (map string_bytes words.now)
+        ≡ Some (program.Still (still.Audit base journal rounds))
+        → HasAudited (view H.held H.open_faults H.read_faults H.write_faults shelf.old)
+        (view H.held H.open_faults H.read_faults H.write_faults shelf.new)
+        (names_to_audit base journal rounds) result }
     ensures make { (parts start : ℕ) (base input : List ℕ)
         → program_of (map string_bytes words.now)
         ≡ Some (program.Still (still.Make parts start base input))
@@ -86,6 +94,7 @@ where
     match read_words(alloc, words) {
         Ok(program) => match Asked::of(program) {
             Some(Asked::Run(run)) => run_told(rt, alloc, run.memo, &RunFiles::of(&run), shelf),
+            Some(Asked::Audit(words)) => audit_told(alloc, &RunFiles::to_audit(&words), shelf),
             Some(Asked::Make(making)) => make_told(&making, shelf),
             Some(Asked::Replay(replaying)) => {
                 replay_told(alloc, &ReplayFiles::of(&replaying), shelf)

@@ -1,0 +1,4 @@
+pub mod Listed
+pub mod Later
+pub mod Kept
+pub mod Joined

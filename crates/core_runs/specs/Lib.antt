@@ -1,0 +1,4 @@
+pub mod Machine
+pub mod Replies
+pub mod Runs
+pub mod Laws

@@ -7,7 +7,7 @@ use Rattle.core_runs.specs.declared.step.CoreReply.{CoreReply}
 use Rattle.core_runs.specs.Machine.{Machine, Walks, unasked}
 use Rattle.core_runs.specs.Runs.{IsStep, IsRun, HasRunFirst}
 use Rattle.core_runs.specs.Laws.{EachHasReply, RunsGoOn, IsLonger, HistoriesAreKept}
-use Rattle.core_runs.proofs.Later.{IsLater, step_later}
+use Rattle.core_runs.proofs.Later.{step_later}
 
 pub runs_go_on : RunsGoOn
 runs_go_on old between new [] later [] later_replied first second = subst (λ (m : Machine). IsRun m later later_replied new) first second

@@ -1,23 +1,22 @@
 -- What holds of the walks in work holds after each step.
-use Rattle.std.proofs.Common.{◌≡◌, ℕ, List, [], ◌∷◌, ◌++◌, refl, sym, ◌∙◌, ap, subst, inl, inr, Bool, true, false, map}
-use Rattle.std.specs.Prelude.{◌⊎◌, Option, Some, None, IfSome}
+use Rattle.std.proofs.Common.{◌≡◌, ℕ, refl, sym, ap, subst, inl, inr, Bool, true, false}
+use Rattle.std.specs.Prelude.{Option, Some, None, IfSome}
 use Rattle.plan_schema.specs.declared.name.Name.{Name}
 use Rattle.walk_rules.specs.Cells.{Stands}
-use Rattle.walk_rules.specs.Walks.{results_of}
 use Rattle.plan_jobs.specs.declared.job.Job.{Job}
 use Rattle.plan_jobs.specs.declared.job.Wanted.{Wanted}
 use Rattle.plan_jobs.specs.Jobs.{wants_plan}
 use Rattle.plan_walk.specs.declared.round.Round.{Round}
 use Rattle.plan_walk.specs.declared.round.Round.TheVariants.{Done, More}
 use Rattle.plan_walk.specs.View.{View}
-use Rattle.plan_walk.specs.Walk.{IsOpen, IsSolved}
+use Rattle.plan_walk.specs.Walk.{IsOpen}
 use Rattle.plan_core.specs.State.{State, meaning_of}
 use Rattle.core_runs.specs.declared.step.CoreStep.{CoreStep}
 use Rattle.core_runs.specs.declared.step.CoreStep.TheVariants as steps
 use Rattle.core_runs.specs.declared.step.CoreReply.{CoreReply}
 use Rattle.core_runs.specs.declared.step.CoreReply.TheVariants as replies
 use Rattle.core_runs.specs.declared.in_work.InWork.{InWork}
-use Rattle.core_runs.specs.Machine.{Machine, Walks, walk_at, with_walk}
+use Rattle.core_runs.specs.Machine.{Machine, Walks, walk_at}
 use Rattle.core_runs.specs.Replies.{IsWalkOf, IsWalkReply, IsAskReply, IsNetted, IsRoundReply, left_after}
 use Rattle.core_runs.specs.Runs.{IsStep, IsSolveStep, IsRoundStep, IsInWork, AreInWork}
 use Rattle.core_runs.proofs.Listed.{each_set, each_more, if_some_as}
@@ -55,9 +54,9 @@ module _ (core : State) where
   asked_in_work user scenario wanted reply walk h = elim h [
     | inl asked ↦ reply_in_work asked.job reply walk asked.asked.stands asked.replied
     | inr not ↦ no_walk walk not.none
-    ]
+  ]
 
--- netting ------------------------------------------------------------------------------------------------------------------------------
+  -- netting ------------------------------------------------------------------------------------------------------------------------------
 
   netted_in_work : (work left : InWork) (reply : CoreReply) → IsInWork core work → IsNetted work left reply → IsInWork core left
   netted_in_work work left replies.Solved h netted = subst (IsInWork core) (sym netted.lent) (record { goes_on = h.goes_on; lent = inr (refl, netted.whole); stands = h.stands })
@@ -67,7 +66,7 @@ module _ (core : State) where
   solved_in_work : (number : ℕ) (o : Option InWork) (old new : Walks) (reply : CoreReply) → IfSome o (IsInWork core) → AreInWork core old → IsSolveStep number o old new reply → AreInWork core new
   solved_in_work number None old new reply here each h = subst (AreInWork core) (sym h.1) each
   solved_in_work number (Some work) old new reply here each h =
-    subst (AreInWork core) (sym h.listed) (each_set (IsInWork core) old number (Some h.left) each (netted_in_work work h.left reply here h.netted))
+      subst (AreInWork core) (sym h.listed) (each_set (IsInWork core) old number (Some h.left) each (netted_in_work work h.left reply here h.netted))
 
 -- a round ------------------------------------------------------------------------------------------------------------------------------
 

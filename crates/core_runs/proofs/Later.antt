@@ -1,5 +1,5 @@
 -- The core after a step: its history is as before or has one more entry.
-use Rattle.std.proofs.Common.{◌≡◌, ℕ, List, [], ◌∷◌, ◌++◌, refl, sym, ◌∙◌, ap, subst, append_assoc, inl, inr, Bool, true, false}
+use Rattle.std.proofs.Common.{◌≡◌, List, [], ◌∷◌, ◌++◌, refl, sym, ◌∙◌, ap, subst, append_assoc, inl, inr, Bool, true, false}
 use Rattle.std.specs.Prelude.{◌⊎◌, Option, Some, None}
 use Rattle.plan_schema.specs.declared.change.Entry.{Entry}
 use Rattle.version_rules.specs.Meaning.{Meaning, meaning_after}
@@ -92,7 +92,7 @@ meanings_grow old new later = subst (λ (m : Meaning). Grows (meaning_of old) m)
     by_entered entered one = elim one [
       | inl none ↦ subst (λ h. Grows (meaning_of old) (meaning_after old.base h)) (nothing_behind (history old) ∙ sym (ap (λ es. history old ++ es) none)) (λ id rows is. is)
       | inr some ↦ subst (λ es. Grows (meaning_of old) (meaning_after old.base (history old ++ es))) (sym some.1) (grows_then old.base (history old) some.0)
-      ]
+    ]
 
 stand_later : (m later : Meaning) → Grows m later → (cells : Cells) → Stands m cells → Stands later cells
 stand_later m later grows [] h = tt

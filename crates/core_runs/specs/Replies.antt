@@ -1,8 +1,7 @@
 -- What the steps of a core are replied, and what is of the core and of a walk then.
-use Rattle.std.specs.Prelude.{◌≡◌, ◌⊎◌, ℕ, Bool, true, false, List, [], map, Option, Some, None, Result, Ok, Err}
+use Rattle.std.specs.Prelude.{◌≡◌, ◌⊎◌, Bool, true, false, [], map, Option, Some, None, Ok, Err}
 use Rattle.plan_schema.specs.declared.name.Name.{Name}
 use Rattle.plan_schema.specs.declared.change.Entry.{Entry}
-use Rattle.scenario_rules.specs.Refused.{access_refusal}
 use Rattle.session_rules.specs.Answers.{trees}
 use Rattle.walk_rules.specs.Cells.{records}
 use Rattle.walk_rules.specs.Memo.{MemoRight}

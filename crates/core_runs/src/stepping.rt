@@ -65,12 +65,7 @@ fn change(core: &mut Core, entry: &Entry) -> CoreReply
 }
 
 /// Nets the frontier of the walk of a question.
-fn solve_walk(
-    alloc: Global,
-    core: &Core,
-    walks: &mut Vec<Option<InWork>>,
-    number: u32,
-) -> CoreReply
+fn solve_walk(alloc: Global, core: &Core, walks: &mut Vec<Option<InWork>>, number: u32) -> CoreReply
     requires { AreInWork core.now walks.old.items }
     ensures { IsSolveStep number (walk_at walks.old.items number) walks.old.items walks.new.items
         result }
@@ -111,7 +106,10 @@ fn round(alloc: Global, core: &mut Core, work: InWork) -> Replied
 {
     let InWork { mut walk, lent } = work;
     match core.round(&mut walk, lent) {
-        Ok(Round::Done) => Replied { reply: CoreReply::Round(Round::Done), walk: None },
+        Ok(Round::Done) => Replied {
+            reply: CoreReply::Round(Round::Done),
+            walk: None,
+        },
         Ok(Round::More) => {
             let lent = Solved::none(alloc);
             Replied {

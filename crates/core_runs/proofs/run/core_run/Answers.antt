@@ -1,4 +1,4 @@
-use Rattle.std.proofs.Common.{◌≡◌, ◌+◌, ◌<◌, ◌≤◌, List, [], ◌∷◌, ◌++◌, length, take, sym, ◌∙◌, ap, subst, arith}
+use Rattle.std.proofs.Common.{◌+◌, ◌<◌, ◌≤◌, List, [], ◌∷◌, ◌++◌, length, take, sym, subst, arith}
 use Rattle.plan_core.proofs.Reclaimed.{on_err}
 use Rattle.core_runs.specs.declared.step.CoreReply.{CoreReply}
 use Rattle.core_runs.specs.Machine.{Machine, unasked}

@@ -1,4 +1,4 @@
-use Rattle.std.proofs.Common.{◌≡◌, Some, None, refl, sym, ◌∙◌, ap, subst}
+use Rattle.std.proofs.Common.{Some, None, refl, sym, ◌∙◌, ap, subst}
 use Rattle.std.specs.Prelude.{Option}
 use Rattle.core_runs.specs.declared.in_work.InWork.{InWork}
 use Rattle.core_runs.specs.declared.step.CoreReply.TheVariants.{Idle}

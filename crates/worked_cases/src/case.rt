@@ -1,16 +1,14 @@
 //! A case as it is read, and its run.
 use crate::directive::Directive;
+use crate::made::CONSOLE;
 use crate::report::{show, show_text};
-use crate::traces::report_traces;
+use crate::study::Study;
 use byte_lines::{Calls, MemoryShelf, NamedCalls};
 use plan_schema::Series;
 use response_program::response;
 use std::alloc::{AllocError, Global};
 use std::sync::Wait;
 use std::thread::Threads;
-
-/// The name of the console.
-const CONSOLE: &str = "-";
 
 /// A file of the shelf.
 #[derive(Drop)]
@@ -31,8 +29,8 @@ pub struct Case {
     /// The reads and writes that fail, by file.
     calls: NamedCalls,
     shown: Vec<String>,
-    /// How many parts a base has whose planned receipts are traced, and the start that it is made from.
-    traced: Option<(String, String)>,
+    /// What is looked at in the place of a run.
+    study: Option<Study>,
     /// Lines that say nothing.
     unknown: Vec<String>,
 }
@@ -48,7 +46,7 @@ impl Case {
             opens: Series::new(alloc),
             calls: NamedCalls::new(alloc),
             shown: Vec::new(alloc),
-            traced: None,
+            study: None,
             unknown: Vec::new(alloc),
         }
     }
@@ -74,7 +72,10 @@ impl Case {
             Directive::FailCall(call, name) => self.calls.push(name, call),
             Directive::Show(name) => push_text(&mut self.shown, self.alloc, name),
             Directive::Unknown(line) => push_text(&mut self.unknown, self.alloc, line),
-            Directive::Traces(words) => self.add_traces(words),
+            Directive::Study(study) => {
+                self.study = Some(study);
+                Ok(())
+            }
             Directive::Case(_) | Directive::Remark => Ok(()),
             bytes => self.add_bytes(bytes),
         }
@@ -83,14 +84,6 @@ impl Case {
     fn add_words(&mut self, words: &str) -> Result<(), AllocError> {
         for word in words.split_whitespace() {
             push_text(&mut self.words, self.alloc, word)?;
-        }
-        Ok(())
-    }
-
-    fn add_traces(&mut self, words: &str) -> Result<(), AllocError> {
-        if let Some((parts, start)) = words.split_once(" ") {
-            let parts = String::from_str(self.alloc, parts)?;
-            self.traced = Some((parts, String::from_str(self.alloc, start)?));
         }
         Ok(())
     }
@@ -121,8 +114,8 @@ impl Case {
         if let Some(name) = &self.name {
             show_text(report, "case", name.as_str())?;
         }
-        if let Some((parts, start)) = &self.traced {
-            return report_traces(rt, self.alloc, parts.as_str(), start.as_str(), report);
+        if let Some(study) = self.study {
+            return study.report(rt, self.alloc, report);
         }
         let mut shelf = MemoryShelf::new(self.alloc, self.opens, self.calls);
         for file in &self.files {

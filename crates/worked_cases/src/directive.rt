@@ -13,9 +13,12 @@
 //! | `byte N` | a byte of the file by its number |
 //! | `fail-open N` | the call of this number, from 1, that opens or makes a file fails |
 //! | `fail-call N NAME` | the read or write of this number, from 1, of the file of this name fails |
+//! | `mutants COUNT N START` | what `make N START` gives is run in three sessions, and so many mutants of the run's files are audited; the number of each is printed, and what its audit tells |
 //! | `traces N START` | for each planned receipt of the base that `make N START` gives, its shares are asked for; it is printed how many receipts there are, and to how many of them the shares sum |
 //! | `show NAME` | what the shelf holds under a name is printed, behind the console |
 //! | nothing, or `; TEXT` | a remark |
+
+use crate::study::Study;
 
 /// What a line says.
 #[derive(Clone, Copy)]
@@ -31,7 +34,7 @@ pub enum Directive<'a> {
     Byte(u8),
     FailOpen(u64),
     FailCall(u64, &'a str),
-    Traces(&'a str),
+    Study(Study),
     Show(&'a str),
     Remark,
     /// A line that says nothing of these. It is printed.
@@ -64,7 +67,8 @@ impl<'a> Directive<'a> {
             "case" => Some(Directive::Case(rest)),
             "words" => Some(Directive::Words(rest)),
             "file" => Some(Directive::File(rest)),
-            "traces" => Some(Directive::Traces(rest)),
+            "traces" => Some(Directive::Study(Study::read_traces(rest)?)),
+            "mutants" => Some(Directive::Study(Study::read_mutants(rest)?)),
             "show" => Some(Directive::Show(rest)),
             "blank" => Some(Directive::Blank(rest.parse::<u64>().ok()?)),
             "byte" => Some(Directive::Byte(rest.parse::<u8>().ok()?)),

@@ -4,7 +4,11 @@
 
 mod case;
 mod directive;
+mod made;
+mod mutants;
+mod mutation;
 mod report;
+mod study;
 mod traces;
 
 use case::Case;

@@ -1,7 +1,5 @@
 //! Full pegging over a base that is made: for each planned receipt of each part its shares are asked for, and they are to sum to it.
-use byte_lines::{MemoryShelf, NamedCalls};
-use plan_schema::Series;
-use response_program::response;
+use crate::made::{held, made_shelf, run_words};
 use std::alloc::{AllocError, Global};
 use std::sync::Wait;
 use std::thread::Threads;
@@ -19,33 +17,22 @@ struct Receipt<'a> {
 pub fn report_traces<R: Threads + Wait + Sync>(
     rt: &R,
     alloc: Global,
-    parts: &str,
-    start: &str,
+    parts: u64,
+    start: u64,
     report: &mut Vec<u8>,
 ) -> Result<(), AllocError> {
-    let mut shelf = MemoryShelf::new(alloc, Series::new(alloc), NamedCalls::new(alloc));
-    run(rt, alloc, &["make", parts, start, "base", "in"], &mut shelf)?;
+    let mut shelf = made_shelf(rt, alloc, parts, start)?;
     let base = held(alloc, &shelf, "base")?;
     let names = part_names(alloc, base.as_slice())?;
     shelf.put("asked", plan_requests(alloc, names.as_slice())?.as_slice())?;
-    run(
-        rt,
-        alloc,
-        &["run", "base", "journal", "asked", "plans"],
-        &mut shelf,
-    )?;
+    run_words(rt, alloc, "run base journal asked plans", &mut shelf)?;
     let plans = held(alloc, &shelf, "plans")?;
     let receipts = receipts_in(alloc, names.as_slice(), plans.as_slice())?;
     shelf.put(
         "traced",
         trace_requests(alloc, receipts.as_slice())?.as_slice(),
     )?;
-    run(
-        rt,
-        alloc,
-        &["run", "base", "journal", "traced", "shares"],
-        &mut shelf,
-    )?;
+    run_words(rt, alloc, "run base journal traced shares", &mut shelf)?;
     let shares = held(alloc, &shelf, "shares")?;
     let sums = sums_in(alloc, shares.as_slice())?;
     let equal = receipts
@@ -54,29 +41,6 @@ pub fn report_traces<R: Threads + Wait + Sync>(
         .filter(|(receipt, sum)| receipt.planned == **sum);
     let line = format!(in alloc; "{} receipts {} sums\n", receipts.len(), equal.count())?;
     report.extend_from_slice(line.as_bytes())
-}
-
-/// Runs the program with these words.
-fn run<R: Threads + Wait + Sync>(
-    rt: &R,
-    alloc: Global,
-    words: &[&str],
-    shelf: &mut MemoryShelf,
-) -> Result<(), AllocError> {
-    let mut texts = Vec::new(alloc);
-    for word in words {
-        texts.push(String::from_str(alloc, word)?)?;
-    }
-    let _status = response(rt, alloc, texts.as_slice(), shelf);
-    Ok(())
-}
-
-/// A copy of what the shelf holds under a name.
-fn held(alloc: Global, shelf: &MemoryShelf, name: &str) -> Result<Vec<u8>, AllocError> {
-    match shelf.held(name) {
-        Some(bytes) => Vec::from_slice(alloc, bytes),
-        None => Ok(Vec::new(alloc)),
-    }
 }
 
 /// The names of a base's parts, in order.

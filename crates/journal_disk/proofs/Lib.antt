@@ -1,0 +1,4 @@
+pub mod OneBlock
+pub mod Chains
+pub mod Moments
+pub mod Pieces

@@ -1,4 +1,7 @@
 pub mod Disks
 pub mod Stores
 pub mod Recovery
+pub mod Memory
+pub mod Synced
+pub mod Laws
 pub use Rattle.plan_schema.specs.Outside

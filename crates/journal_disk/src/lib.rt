@@ -5,11 +5,15 @@ mod blocks;
 mod creation;
 mod disk;
 mod fault;
+mod laws;
+mod memory;
 mod recovered;
 mod recovery;
 
 pub use creation::create;
 pub use disk::{Disk, DiskShelf};
 pub use fault::StoreFault;
+pub use laws::{blocks_cut_short_count_for_nothing, stores_stand_for_one_history};
+pub use memory::MemoryDisk;
 pub use recovered::Recovered;
 pub use recovery::recover;

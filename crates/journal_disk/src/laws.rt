@@ -1,0 +1,15 @@
+//! What holds of stores.
+ghost use Rattle.journal_disk.specs.Laws.{EmptyStandsForNone, StandForOne, FaultyStandForNone};
+ghost use Rattle.journal_disk.specs.Laws.{CutShortStandsForTheRest};
+
+/// A law: bytes stand for one history or for none, and a new store for the empty one.
+pub fn stores_stand_for_one_history()
+    ensures empty { EmptyStandsForNone }
+    ensures one { StandForOne }
+    ensures none { FaultyStandForNone }
+{}
+
+/// A law: what a crash leaves of a block that was being written counts for nothing, whatever it is.
+pub fn blocks_cut_short_count_for_nothing()
+    ensures { CutShortStandsForTheRest }
+{}

@@ -1,11 +1,10 @@
 -- Blocks one behind the other.
-use Rattle.std.proofs.Common.{◌≡◌, ℕ, zero, suc, ◌+◌, ◌-◌, ◌^◌, ◌<◌, ◌≤◌, true, List, [], ◌∷◌, ◌++◌, length, refl, sym, ap, subst, ◌∙◌, arith}
+use Rattle.std.proofs.Common.{◌≡◌, ℕ, zero, suc, ◌+◌, true, List, [], ◌∷◌, ◌++◌, length, refl, sym, subst, arith}
 use Rattle.plan_schema.specs.declared.change.Entry.{Entry}
 use Rattle.plan_schema.specs.Sound.{is_sound_entry}
 use Rattle.plan_journal.specs.Journal.{AreSound}
 use Rattle.plan_journal.specs.Entries.{entry_text}
 use Rattle.journal_disk.specs.Stores.{store_head, IsBlock, AreBlocks, Reaches}
-use Rattle.journal_disk.proofs.OneBlock.{block_length}
 
 -- one more sound entry
 pub sound_more : (entries : List Entry) (entry : Entry) → AreSound entries → is_sound_entry entry ≡ true → AreSound (entries ++ entry ∷ [])

@@ -37,11 +37,13 @@ cut_short bytes torn entries end n stands tears =
     let front : take (end + 1) torn ≡ gated = tears.before ∙ ap (take (end + 1)) split ∙ take_at gated stands.0 (end + 1) long in
     let behind : List ℕ = drop (end + 1) torn in
     let whole : torn ≡ store_head ++ (found.front ++ 0 ∷ behind) =
-    sym (take-append-drop (end + 1) torn) ∙ ap (λ (l : List ℕ). l ++ behind) front ∙ ap (λ (l : List ℕ). store_head ++ l) (append_assoc found.front (0 ∷ []) behind) in
-    (behind, record {
-      sound = reach.sound;
-      blocks = found.front ++ 0 ∷ behind;
-      head = whole;
-      blocks_are = found.before (0 ∷ behind);
-      place_is = omega (arith, ap length whole, length-append found.front (0 ∷ behind), length-append found.front (0 ∷ []), long);
-    })
+    sym (take-append-drop (end + 1) torn) ∙ ap (λ (l : List ℕ). l ++ behind) front ∙ ap (λ (l : List ℕ). store_head ++ l) (append_assoc found.front (0 ∷ []) behind) in (
+      behind,
+      record {
+        sound = reach.sound;
+        blocks = found.front ++ 0 ∷ behind;
+        head = whole;
+        blocks_are = found.before (0 ∷ behind);
+        place_is = omega (arith, ap length whole, length-append found.front (0 ∷ behind), length-append found.front (0 ∷ []), long);
+      },
+    )

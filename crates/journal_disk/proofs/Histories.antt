@@ -1,11 +1,11 @@
 -- Bytes stand for one history or for none.
-use Rattle.std.proofs.Common.{◌≡◌, ℕ, zero, suc, ◌+◌, ◌^◌, ◌<◌, ◌≤◌, true, List, [], ◌∷◌, ◌++◌, length, drop, get_or, Option, Some, Result, Ok, refl, sym, ap, subst, ◌∙◌, inl, inr, arith}
+use Rattle.std.proofs.Common.{◌≡◌, ℕ, zero, suc, ◌+◌, ◌^◌, ◌<◌, true, List, [], ◌∷◌, length, drop, refl, sym, ap, subst, ◌∙◌, inl, inr, arith}
 use Rattle.plan_schema.specs.declared.change.Entry.{Entry}
 use Rattle.plan_schema.specs.Sound.{is_sound_entry}
 use Rattle.plan_journal.specs.Journal.{AreSound}
 use Rattle.plan_journal.specs.Entries.{entry_text}
 use Rattle.plan_journal.proofs.EntryTold.{entry_again}
-use Rattle.journal_disk.specs.Stores.{store_head, IsBlock, AreBlocks, Reaches, StandsFor, IsFaultyAt, BreaksAt}
+use Rattle.journal_disk.specs.Stores.{IsBlock, AreBlocks, Reaches}
 use Rattle.journal_disk.specs.Laws.{EmptyStandsForNone, StandForOne, FaultyStandForNone}
 use Rattle.journal_disk.proofs.OneBlock.{block_gate, block_length, one_text, one_behind}
 
@@ -40,7 +40,7 @@ one_chain number (first ∷ entries) (second ∷ others) bytes rest other few lo
     let here : number + length (first ∷ entries) ≡ (number + 1) + length entries = omega arith in
     let there : number + length (second ∷ others) ≡ (number + 1) + length others = omega arith in
     let more = one_chain (number + 1) entries others one.0 rest other (omega (arith, long, few)) (omega (arith, long, low)) (λ k. sound (suc k)) (λ k. as_sound (suc k)) one.2
-        (subst (λ (l : List ℕ). AreBlocks (number + 1) others l other) (sym behind) two.2) (subst (λ (n : ℕ). Stops n rest) here stops) (subst (λ (n : ℕ). Stops n other) there halts) in
+    (subst (λ (l : List ℕ). AreBlocks (number + 1) others l other) (sym behind) two.2) (subst (λ (n : ℕ). Stops n rest) here stops) (subst (λ (n : ℕ). Stops n other) there halts) in
     ((λ i. same i ∷ more.0 i), more.1)
 
 same_blocks : (bytes : List ℕ) (entries others : List Entry) (rest other : List ℕ) (place end : ℕ) → (one : Reaches bytes entries rest place) → (two : Reaches bytes others other end) → two.blocks ≡ one.blocks

@@ -1,5 +1,5 @@
 -- How a disk's moments follow each other.
-use Rattle.std.proofs.Common.{◌≡◌, ◌⊎◌, inl, inr, ⊎_elim, ℕ, ◌≤◌, List, sym, ◌∙◌, arith}
+use Rattle.std.proofs.Common.{inl, inr, ⊎_elim, ℕ, List, ◌∙◌, arith}
 use Rattle.journal_disk.specs.Disks.{Moment, GoesOn, Looked, EachMoment}
 
 pub looked_at_all : (moment : Moment) → Looked moment moment

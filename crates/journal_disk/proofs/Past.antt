@@ -1,7 +1,7 @@
 -- One more content joins those that a disk has had.
-use Rattle.std.proofs.Common.{◌≡◌, ◌⊎◌, inl, inr, ⊎_elim, ℕ, zero, suc, ◌≤◌, List, [], ◌∷◌, ◌++◌, length, drop, Option, Some, None, refl, sym, ◌∙◌, subst, arith, length-append}
+use Rattle.std.proofs.Common.{◌≡◌, ◌⊎◌, inl, inr, ⊎_elim, ℕ, zero, suc, ◌≤◌, List, [], ◌∷◌, ◌++◌, length, drop, Option, Some, None, refl, sym, subst, arith, length-append}
 use Rattle.journal_disk.specs.Disks.{GoesOn}
-use Rattle.journal_disk.specs.Memory.{HadBeen, IsSynced, Leaves, memory_moment, kept_back, after_sync}
+use Rattle.journal_disk.specs.Memory.{HadBeen, IsSynced, memory_moment, kept_back, after_sync}
 
 keeps : (past : List (List ℕ)) (content image : List ℕ) → HadBeen past image → HadBeen (past ++ content ∷ []) image
 keeps [] content image had = absurd had
@@ -39,7 +39,7 @@ written bytes next synced past faults more = record {
   later = omega (arith, length-append past (bytes ∷ []));
   nothing_else = λ time image le left. ⊎_elim (λ now. inr now) (λ had. inl (⊎_elim (λ before. inr before) (λ is. inl (inl is)) (popped time past bytes image le had))) left;
   keeps = λ time image le left.
-    ⊎_elim (λ now. ⊎_elim (λ is. inr (pushed time past bytes image le (inr is))) (λ is. inl (inr (still_synced synced bytes image is))) now) (λ had. inr (pushed time past bytes image le (inl had))) left;
+      ⊎_elim (λ now. ⊎_elim (λ is. inr (pushed time past bytes image le (inr is))) (λ is. inl (inr (still_synced synced bytes image is))) now) (λ had. inr (pushed time past bytes image le (inl had))) left;
 }
 
 settled : (bytes : List ℕ) (synced : Option (List ℕ)) (past : List (List ℕ)) (faults more : ℕ) → GoesOn (memory_moment bytes synced past faults) (memory_moment bytes None (after_sync past synced) more)
@@ -48,7 +48,7 @@ settled bytes (Some synced) past faults more = record {
   later = omega (arith, length-append past (synced ∷ []));
   nothing_else = λ time image le left. ⊎_elim (λ now. inr now) (λ had. inl (⊎_elim (λ before. inr before) (λ is. inl (inr is)) (popped time past synced image le had))) left;
   keeps = λ time image le left.
-    ⊎_elim (λ now. ⊎_elim (λ is. inl (inl is)) (λ is. inr (pushed time past synced image le (inr is))) now) (λ had. inr (pushed time past synced image le (inl had))) left;
+      ⊎_elim (λ now. ⊎_elim (λ is. inl (inl is)) (λ is. inr (pushed time past synced image le (inr is))) now) (λ had. inr (pushed time past synced image le (inl had))) left;
 }
 
 -- after a write

@@ -1,4 +1,4 @@
-use Rattle.std.proofs.Common.{◌≡◌, ◌≤◌, ◌<◌, length, arith}
+use Rattle.std.proofs.Common.{arith}
 use Rattle.journal_disk.proofs.OneBlock.{block_made}
 use Rattle.journal_disk.proofs.blocks.cut_block.Goals as goal
 

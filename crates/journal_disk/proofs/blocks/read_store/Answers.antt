@@ -1,7 +1,6 @@
-use Rattle.std.proofs.Common.{◌≡◌, ◌+◌, ◌-◌, ◌≤◌, ◌<◌, ◌∷◌, ◌++◌, ℕ, List, [], length, inr, Option, Some, None, Ok, refl, sym, subst, arith, length-append, ap, ◌∙◌}
-use Rattle.plan_schema.specs.declared.change.Entry.{Entry}
+use Rattle.std.proofs.Common.{◌≡◌, ◌+◌, ◌-◌, ◌∷◌, ℕ, [], length, inr, Option, Some, None, Ok, refl, sym, subst, arith, length-append, ap}
 use Rattle.plan_journal.specs.Entries.{entry_text}
-use Rattle.journal_disk.specs.Stores.{IsBlock, Reaches}
+use Rattle.journal_disk.specs.Stores.{IsBlock}
 use Rattle.journal_disk.proofs.OneBlock.{block_length}
 use Rattle.journal_disk.proofs.Chains.{reaches_more}
 use Rattle.journal_disk.proofs.blocks.read_store.Goals as goal

@@ -1,4 +1,4 @@
-use Rattle.std.proofs.Common.{◌≡◌, ◌≤◌, ◌<◌, ◌∙◌, ℕ, List, length, take, drop, Some, subst, arith, length-append}
+use Rattle.std.proofs.Common.{◌<◌, ◌∙◌, ℕ, length, take, drop, subst, arith, length-append}
 use Rattle.std.proofs.lemmas.List.{length-take}
 use Rattle.journal_disk.specs.Disks.{GaveFrom}
 use Rattle.journal_disk.proofs.Moments.{looked_on}

@@ -1,4 +1,5 @@
 pub mod Names
+pub mod Compared
 pub mod Days
 pub mod Dates
 pub mod Orders

@@ -1,5 +1,5 @@
 //! Names of parts, orders, calendars, scenarios and users.
-ghost use Rattle.std.specs.Prelude.{◌≡◌, ◌≤◌, true, length, Some, nat_eq, refl};
+ghost use Rattle.std.specs.Prelude.{◌≡◌, ◌≤◌, true, length, take, drop, Some, nat_eq, refl};
 ghost use Rattle.std.specs.Ordering.{nat_cmp};
 ghost use Rattle.std.specs.Cmp.{partial_equiv_from_equiv};
 ghost use Rattle.std.specs.Cmp.Lexicographic.{pointwise, slice_cmp, nat_list_eq_equiv, nat_list_cmp_total};
@@ -9,7 +9,7 @@ ghost use Rattle.std.specs.List.{list_all};
 ghost use Rattle.std.specs.Hash as fed;
 ghost use Rattle.std.proofs.Common.{rules};
 ghost use Rattle.plan_schema.specs.Name as spec;
-ghost use Rattle.plan_schema.specs.Name.{is_name, name_of};
+ghost use Rattle.plan_schema.specs.Name.{is_name, name_of, worth};
 
 use std::cmp::Ordering;
 use std::hash::{Hash, Hasher};
@@ -76,7 +76,7 @@ impl PartialEq for Name {
     ghost laws = { partial_equiv_from_equiv nat_list_eq_equiv };
 
     fn eq(&self, other: &Self) -> bool {
-        self.as_bytes() == other.as_bytes()
+        compare(&self.cells, &other.cells) == Ordering::Equal
     }
 }
 
@@ -104,7 +104,7 @@ impl Ord for Name {
     ghost matches_eq = { texts_ties };
 
     fn cmp(&self, other: &Self) -> Ordering {
-        self.as_bytes().cmp(other.as_bytes())
+        compare(&self.cells, &other.cells)
     }
 }
 
@@ -116,6 +116,38 @@ impl Hash for Name {
     fn hash<H: Hasher>(&self, state: &mut H) {
         self.as_bytes().hash(state);
     }
+}
+
+/// Compares cells eight at a time.
+fn compare(ours: &[u8; 32], theirs: &[u8; 32]) -> Ordering
+    ensures { result ≡ slice_cmp nat_cmp ours.now theirs.now }
+{
+    let first = word(ours, 0).cmp(&word(theirs, 0));
+    if first != Ordering::Equal {
+        return first;
+    }
+    let second = word(ours, 8).cmp(&word(theirs, 8));
+    let third = word(ours, 16).cmp(&word(theirs, 16));
+    second
+        .then(third)
+        .then(word(ours, 24).cmp(&word(theirs, 24)))
+}
+
+/// The number that eight cells from a place on spell, the first of them weighing most.
+fn word(cells: &[u8; 32], from: usize) -> u64
+    requires { from ≤ 24 }
+    ensures { result ≡ worth 0 (take 8 (drop from cells.now)) }
+{
+    u64::from_be_bytes([
+        cells[from],
+        cells[from + 1],
+        cells[from + 2],
+        cells[from + 3],
+        cells[from + 4],
+        cells[from + 5],
+        cells[from + 6],
+        cells[from + 7],
+    ])
 }
 
 fn is_name_byte(byte: u8) -> bool

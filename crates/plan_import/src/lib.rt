@@ -129,11 +129,9 @@ fn add_new(contents: &mut Contents, number: u32, key: Key, value: Record) -> Res
     ensures err { IfErr result (TellsFault (with_new number contents.old (key, value))) }
     ensures sound { are_sound_rows contents.old ≡ true → are_sound_rows contents.new ≡ true }
 {
-    if contents.get(&key).is_some() {
-        return Err(ImportFault::Twice(number));
-    }
     match contents.put(key, value) {
-        Ok(()) => Ok(()),
+        Ok(None) => Ok(()),
+        Ok(Some(_)) => Err(ImportFault::Twice(number)),
         Err(_) => Err(ImportFault::Memory),
     }
 }
@@ -142,7 +140,7 @@ fn add_new(contents: &mut Contents, number: u32, key: Key, value: Record) -> Res
 fn fields_of_row<'a>(alloc: Global, row: &'a ByteRecord) -> Result<Vec<&'a [u8]>, AllocError>
     ensures { IfOk result (λ fields. texts fields.items ≡ fields_of row.now) }
 {
-    let mut fields = Vec::new(alloc);
+    let mut fields = Vec::with_capacity(alloc, row.len())?;
     for field in row.iter() {
         fields.push(field)?;
     }

@@ -1,11 +1,10 @@
 -- What was taken, piece by piece.
-use Rattle.std.proofs.Common.{◌≡◌, ℕ, ◌+◌, ◌-◌, ◌≤◌, ◌<◌, List, [], ◌++◌, length, take, drop, Option, Some, None, Result, Ok, Err, OnOk, OnErr, refl, sym, ap, ◌∙◌, append_assoc, append-nil, take-add, length-append, length-drop, arith, min}
-use Rattle.std.specs.Prelude.{◌^◌}
+use Rattle.std.proofs.Common.{◌≡◌, ℕ, ◌+◌, ◌-◌, ◌≤◌, List, [], ◌++◌, length, take, drop, Option, Some, None, Result, Ok, Err, OnErr, refl, sym, ap, ◌∙◌, append_assoc, append-nil, take-add, length-append, length-drop, arith}
 use Rattle.std.proofs.lemmas.List.{take-append-le, take_all}
 use Rattle.std.proofs.Math.Seq.{take-append-add}
 use Rattle.plan_schema.specs.declared.outside.SinkFault.{SinkFault}
 use Rattle.plan_schema.specs.declared.outside.SinkFault.TheVariants as sinks
-use Rattle.plan_schema.specs.Outside.{extended, TookFront, Wrote, WriteCause, Rose}
+use Rattle.plan_schema.specs.Outside.{extended, TookFront, Wrote, Rose}
 
 -- two pieces one after the other
 pub extended_twice : (t : Option (List ℕ)) (a b : List ℕ) → extended (extended t a) b ≡ extended t (a ++ b)

@@ -1,5 +1,5 @@
 -- Contents: the records of a scenario, as a list of pairs in key order with one pair for each key.
-use Rattle.std.specs.Prelude.{Bool, List, ℕ, Option, filter, count_by}
+use Rattle.std.specs.Prelude.{Bool, List, Option, filter}
 use Rattle.std.specs.FinMap.{is_sorted}
 use Rattle.std.specs.Map.{lookup, remove_entry}
 use Rattle.std.specs.BTreeMap.{is_at, insert_entry}

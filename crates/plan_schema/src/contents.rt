@@ -3,7 +3,8 @@ ghost use Rattle.std.specs.Prelude.{◌≡◌, ◌==◌, ◌<◌, ◌^◌, [], t
 ghost use Rattle.std.specs.Option.{option_copied, option_map};
 ghost use Rattle.std.specs.List.{slice_get};
 ghost use Rattle.std.specs.Map.Iter.{deref_pair};
-ghost use Rattle.std.specs.BTreeMap.{insert_entry};
+ghost use Rattle.std.specs.Map.{lookup};
+ghost use Rattle.std.specs.BTreeMap.{insert_entry, is_at};
 ghost use Rattle.plan_schema.specs.Base.{part_count};
 ghost use Rattle.plan_schema.specs.Contents.{is_ordered, record_at, with_record, without_key};
 
@@ -46,8 +47,9 @@ impl Contents {
         self.records.get(key)
     }
 
-    /// Puts a record under a key.
-    pub fn put(&mut self, key: Key, value: Record) -> Result<(), AllocError>
+    /// Puts a record under a key, and answers the one that it takes the place of.
+    pub fn put(&mut self, key: Key, value: Record) -> Result<Option<Record>, AllocError>
+        ensures before { IfOk result (λ before. before ≡ record_at self.old key) }
         ensures ok { OnOk result (self.new ≡ with_record self.old key value) }
         ensures err { OnErr result (self.new ≡ self.old) }
     {
@@ -120,10 +122,10 @@ fn put_in<K: Ord + Copy, V: Copy>(
     map: &mut BTreeMap<K, V>,
     key: K,
     value: V,
-) -> Result<(), AllocError>
+) -> Result<Option<V>, AllocError>
+    ensures before { IfOk result (λ before. before ≡ lookup (is_at (K.cmp key)) map.old.entries) }
     ensures ok { OnOk result (map.new.entries ≡ insert_entry K.cmp map.old.entries key value) }
     ensures err { OnErr result (map.new.entries ≡ map.old.entries) }
 {
-    map.insert(key, value)?;
-    Ok(())
+    Ok(map.insert(key, value)?)
 }

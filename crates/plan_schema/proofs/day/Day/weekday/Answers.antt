@@ -1,4 +1,4 @@
-use Rattle.std.proofs.Common.{◌≡◌, ◌∙◌, ap}
+use Rattle.std.proofs.Common.{◌∙◌, ap}
 use Rattle.jiff_core.specs.Calendar.{weekday_number}
 use Rattle.plan_schema.proofs.Days.{weekday_is}
 use Rattle.plan_schema.proofs.day.Day.weekday.Goals as goal

@@ -21,23 +21,23 @@ taken_full (suc n) [] h = absurd (omega arith)
 taken_full (suc n) (x ∷ l) h = let rest = taken_full n l (omega arith) in omega arith
 
 -- the words so far, with one more
-pub one_more : (ws ys : List (Bor (List ℕ))) (w : Bor (List ℕ)) → texts ws ≡ take 16 (filter some (texts ys)) → length ws < 16 → some w.now ≡ true
-    → texts (ws ++ w ∷ []) ≡ take 16 (filter some (texts (ys ++ w ∷ [])))
+pub one_more : (ws ys : List (Bor (List ℕ))) (w : Bor (List ℕ)) → texts ws ≡ take 10 (filter some (texts ys)) → length ws < 10 → some w.now ≡ true
+    → texts (ws ++ w ∷ []) ≡ take 10 (filter some (texts (ys ++ w ∷ [])))
 one_more ws ys w h room one =
     let found = filter some (texts ys) in
-    let as_long : length ws ≡ length (take 16 found) = sym (length-map ws (λ (b : Bor (List ℕ)). b.now)) ∙ ap length h in
-    let whole : take 16 found ≡ found = taken_whole 16 found (omega arith) in
+    let as_long : length ws ≡ length (take 10 found) = sym (length-map ws (λ (b : Bor (List ℕ)). b.now)) ∙ ap length h in
+    let whole : take 10 found ≡ found = taken_whole 10 found (omega arith) in
     let now : texts (ws ++ w ∷ []) ≡ found ++ w.now ∷ [] = map-append (λ (b : Bor (List ℕ)). b.now) ws (w ∷ []) ∙ ap (λ l. l ++ w.now ∷ []) (h ∙ whole) in
     let more : filter some (texts (ys ++ w ∷ [])) ≡ found ++ w.now ∷ [] = ap (filter some) (map-append (λ (b : Bor (List ℕ)). b.now) ys (w ∷ [])) ∙ filter-append some (texts ys) (w.now ∷ []) ∙ ap (λ t. found ++ cond t (w.now ∷ []) []) one in
-    let short : length (found ++ w.now ∷ []) ≤ 16 = let n = length-append found (w.now ∷ []) in let same = ap length whole in omega arith in
-    now ∙ sym (ap (take 16) more ∙ take_all 16 (found ++ w.now ∷ []) short)
+    let short : length (found ++ w.now ∷ []) ≤ 10 = let n = length-append found (w.now ∷ []) in let same = ap length whole in omega arith in
+    now ∙ sym (ap (take 10) more ∙ take_all 10 (found ++ w.now ∷ []) short)
 
 -- once sixteen words are found, the rest is not looked at
-pub enough : (ws ys : List (Bor (List ℕ))) (all : List (List ℕ)) (n : ℕ) → texts ws ≡ take 16 (filter some (texts ys)) → length ws ≡ 16 → texts ys ≡ take n all
-    → texts ws ≡ take 16 (filter some all)
+pub enough : (ws ys : List (Bor (List ℕ))) (all : List (List ℕ)) (n : ℕ) → texts ws ≡ take 10 (filter some (texts ys)) → length ws ≡ 10 → texts ys ≡ take n all
+    → texts ws ≡ take 10 (filter some all)
 enough ws ys all n h full seen =
     let found = filter some (texts ys) in
-    let as_long : length ws ≡ length (take 16 found) = sym (length-map ws (λ (b : Bor (List ℕ)). b.now)) ∙ ap length h in
-    let many : 16 ≤ length found = taken_full 16 found (omega arith) in
+    let as_long : length ws ≡ length (take 10 found) = sym (length-map ws (λ (b : Bor (List ℕ)). b.now)) ∙ ap length h in
+    let many : 10 ≤ length found = taken_full 10 found (omega arith) in
     let parts : filter some all ≡ found ++ filter some (drop n all) = ap (filter some) (sym (take-append-drop n all)) ∙ filter-append some (take n all) (drop n all) ∙ ap (λ s. filter some s ++ filter some (drop n all)) (sym seen) in
-    h ∙ sym (ap (take 16) parts ∙ take-append-le 16 found (filter some (drop n all)) many)
+    h ∙ sym (ap (take 10) parts ∙ take-append-le 10 found (filter some (drop n all)) many)

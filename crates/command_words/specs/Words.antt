@@ -14,9 +14,9 @@ is_blank line = list_all is_space line
 unfoldable pub words_of : List ℕ → List (List ℕ)
 words_of line = filter (λ word. nat_lt 0 (length word)) (slice_split is_space line)
 
--- its first 16 words: no command and no row has as many, and of those too many the first alone is told
+-- its first ten words: no command and no row has as many, and of those too many the first alone is told
 unfoldable pub first_words : List ℕ → List (List ℕ)
-first_words line = take 16 (words_of line)
+first_words line = take 10 (words_of line)
 
 -- a byte of a word
 abbrev pub is_word_byte : ℕ → Bool

@@ -23,6 +23,6 @@ pub use lines::Lines;
 pub use page::{Page, flush, put_line};
 pub use plan_schema::CellName;
 pub use query::QueryText;
-pub use read::{Words, read_line, read_row, words_in};
+pub use read::{read_line, read_row};
 pub use reply::{Bad, Reply};
 pub use write::{put_reply, room_bytes, rule_bytes, write_reply};

@@ -1,5 +1,5 @@
 //! Lines as commands, and as the rows of a LOAD.
-ghost use Rattle.std.specs.Prelude.{◌≡◌, ◌≤◌, true, length, IfOk};
+ghost use Rattle.std.specs.Prelude.{◌≡◌, ◌≤◌, true, [], length, IfOk};
 ghost use Rattle.plan_schema.specs.Sound.{is_sound_row};
 ghost use Rattle.row_text.specs.Row.{text_at};
 ghost use Rattle.row_text.specs.Texts.{texts};
@@ -18,10 +18,10 @@ use plan_schema::{FieldFault, Key, Record};
 use row_text::{read_record, text_at};
 
 /// How many words of a line are looked at.
-const MOST_WORDS: usize = 16;
+const MOST_WORDS: usize = 10;
 
 /// The first words of a line.
-pub type Words<'a> = ArrayVec<&'a [u8], MOST_WORDS>;
+type Words<'a> = ArrayVec<&'a [u8], MOST_WORDS>;
 
 /// The command that a line is, or the first fault of it. Takes no memory.
 pub fn read_line<'a>(line: &'a [u8]) -> Result<Command<'a>, Bad>
@@ -29,7 +29,8 @@ pub fn read_line<'a>(line: &'a [u8]) -> Result<Command<'a>, Bad>
     ensures value { result ≡ spec.command_of line.now }
     ensures sound { IfOk result (λ command. is_sound_command command ≡ true) }
 {
-    let words = words_in(line);
+    let mut words = Words::new();
+    cut_words(line, &mut words);
     command_of_words(line, words.as_slice())
 }
 
@@ -39,24 +40,24 @@ pub fn read_row(line: &[u8]) -> Result<(Key, Record), FieldFault>
     ensures value { result ≡ spec.row_of line.now }
     ensures sound { IfOk result (λ row. is_sound_row row.0 row.1 ≡ true) }
 {
-    let words = words_in(line);
+    let mut words = Words::new();
+    cut_words(line, &mut words);
     read_record(words.as_slice())
 }
 
-/// The first words of a line, in order. Takes no memory.
-pub fn words_in(line: &[u8]) -> Words<'_>
-    ensures { texts result.items ≡ first_words line.now }
+/// Puts the first words of a line into a buffer, in order.
+fn cut_words<'a>(line: &'a [u8], words: &mut Words<'a>)
+    requires { words.old.items ≡ [] }
+    ensures { texts words.new.items ≡ first_words line.now }
 {
-    let mut words = Words::new();
     for word in line.split(|byte| *byte == b' ' || *byte == b'\t') {
         if word.is_empty() {
             continue;
         }
         if words.try_push(word).is_err() {
-            break;
+            return;
         }
     }
-    words
 }
 
 fn command_of_words<'a>(line: &'a [u8], words: &[&'a [u8]]) -> Result<Command<'a>, Bad>

@@ -1,4 +1,3 @@
-pub mod FirstWords
 pub mod Held
 pub mod Chained
 pub mod Legal

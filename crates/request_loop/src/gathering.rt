@@ -8,9 +8,8 @@ ghost use Rattle.session_rules.specs.Requests.{row_reading, load_wish, IsBad};
 ghost use Rattle.request_loop.specs.Reading.{Rows as Begun, begun_rows, with_row};
 ghost use Rattle.request_loop.specs.Gathered.{IsGathered, IsKept, ComesTo};
 
-use command_words::{Bad, words_in};
+use command_words::{Bad, read_row};
 use plan_schema::{Change, FieldFault, Key, Name, Record, Rows};
-use row_text::read_record;
 use std::alloc::Global;
 
 /// A LOAD of which some rows were read.
@@ -70,7 +69,7 @@ impl Gathering {
             → IsGathered (with_row r (number, option_map (λ text. text.now) line.entry)) self.new }
     {
         self.read += 1;
-        let row = read_row(self.read, number, line);
+        let row = row_in_line(self.read, number, line);
         self.keep(row);
     }
 
@@ -137,13 +136,13 @@ impl Gathering {
 }
 
 /// The row with this number that a line is, or why it is none.
-fn read_row(row: u32, _number: u64, line: Option<&[u8]>) -> Result<(Key, Record), Bad>
+fn row_in_line(row: u32, _number: u64, line: Option<&[u8]>) -> Result<(Key, Record), Bad>
     requires { IfSome (option_map (λ text. text.now) line) (λ text. length text ≤ 1024) }
     ensures value { result ≡ row_reading row (_number, option_map (λ text. text.now) line.entry) }
     ensures sound { IfOk result (λ row. is_sound_row row.0 row.1 ≡ true) }
 {
     match line {
-        Some(text) => in_row(row, read_record(words_in(text).as_slice())),
+        Some(text) => in_row(row, read_row(text)),
         None => Err(Bad::RowLong(row)),
     }
 }

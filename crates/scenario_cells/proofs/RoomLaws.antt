@@ -1,5 +1,6 @@
 -- Counts of parts and rows, kept over changes that are laid over contents.
 use Rattle.std.proofs.lemmas.List.{take_more, map-append}
+use Rattle.std.proofs.lemmas.List.Sums.{sum_by-cons}
 use Rattle.std.proofs.Common.{◌≡◌, ℕ, suc, ◌+◌, ◌<◌, ◌≤◌, take, get_or, List, [], ◌∷◌, ◌++◌, refl, sym, ◌∙◌, ap, subst, Bool, true, false, cond, ◌&&◌, ◌||◌, arith, length, length-append}
 use Rattle.std.specs.Prelude.{Option, Some, None, if◌then◌else◌, is_some, nat_lt}
 use Rattle.std.proofs.lemmas.Bool.Decides.{nat_tests}
@@ -72,17 +73,17 @@ tally_next c done t t' k new had has o so_far is it e =
 one_more : (c : Contents) (k : Key) (new : Option Record) → is_ordered c ≡ true → length (changed c k new) ≤ length c + 1
 one_more c k new o = omega (arith, length_change c k new o, at_most_one (is_some new))
 
-one_part_more : (c : Contents) (k : Key) (new : Option Record) → is_ordered c ≡ true → part_count (changed c k new) ≤ part_count c + 1
-one_part_more c k new o =
-    omega (arith, parts_change c k new o, both (is_some new) (is_part_key k), at_most_one (is_some new && is_part_key k))
-
 pub rows_bound : (c : Contents) (later : OwnChanges) → is_ordered c ≡ true → length (laid_over c later) ≤ length c + length later
 rows_bound c [] o = omega arith
 rows_bound c (d ∷ ds) o = omega (arith, rows_bound (changed c d.0 d.1) ds (ordered_changed c d.0 d.1 o), one_more c d.0 d.1 o)
 
-pub parts_bound : (c : Contents) (later : OwnChanges) → is_ordered c ≡ true → part_count (laid_over c later) ≤ part_count c + length later
+-- parts come from rows of parts alone
+pub parts_bound : (c : Contents) (rows : List (Key × Record)) → is_ordered c ≡ true → part_count (laid_over c (all_put rows)) ≤ part_count c + part_count rows
 parts_bound c [] o = omega arith
-parts_bound c (d ∷ ds) o = omega (arith, parts_bound (changed c d.0 d.1) ds (ordered_changed c d.0 d.1 o), one_part_more c d.0 d.1 o)
+parts_bound c (r ∷ rows) o =
+    let first = parts_change c r.0 (Some r.1) o in
+    let after = parts_bound (with_record c r.0 r.1) rows (ordered_changed c r.0 (Some r.1) o) in
+    omega (arith, after, first, sum_by-cons (λ (row : Key × Record). cond (is_part_key row.0) 1 0) r rows)
 
 -- within the limits nothing is refused
 pub within : (parts records : ℕ) → parts ≤ 10_000 → records ≤ 200_000 → refused_counts parts records ≡ None

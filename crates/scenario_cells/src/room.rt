@@ -7,6 +7,7 @@ ghost use Rattle.std.specs.List.{list_any};
 ghost use Rattle.std.specs.Ordering.{is_eq};
 ghost use Rattle.std.specs.FinMap.{is_sorted};
 ghost use Rattle.plan_schema.specs.declared.key.Record.{Record};
+ghost use Rattle.plan_schema.specs.Base.{part_count};
 ghost use Rattle.plan_schema.specs.Key.{key_cmp};
 ghost use Rattle.plan_schema.specs.Contents.{record_at};
 ghost use Rattle.scenario_rules.specs.World.{laid_over, contents_of};
@@ -173,27 +174,35 @@ fn had_before(held: &Held, store: &Store, rows: &[(Key, Record)], key: &Key) -> 
     is_among(rows, key)
 }
 
-/// Why a scenario can't take rows. Only where they might not fit are those of new keys counted, each beside the earlier ones.
+/// Why a scenario can't take rows. Only where they might not fit, if all were of new keys, are the new ones counted, each beside the
+/// earlier ones.
 pub fn rows_room(held: &Held, store: &Store, rows: &[(Key, Record)]) -> Option<Refusal>
     requires held { IsHeld (cell_at store.now) held.now }
     requires limits { AreWithinLimits (contents_of (scenario_by (cell_at store.now) held.now)) }
     ensures { result ≡ refused_contents (laid_over
         (contents_of (scenario_by (cell_at store.now) held.now)) (all_put rows.now)) }
 {
-    if fits(held, rows.len()) {
+    if fits(held, part_rows(rows), rows.len()) {
         return None;
     }
     counted_room(held, store, rows)
 }
 
+/// How many of the rows are parts.
+fn part_rows(rows: &[(Key, Record)]) -> usize
+    ensures { result ≡ part_count rows.now }
+{
+    rows.iter().filter(|row| row.0.is_part()).count()
+}
+
 /// Whether a scenario can take so many more parts and rows.
-fn fits(held: &Held, more: usize) -> bool
+fn fits(held: &Held, parts: usize, rows: usize) -> bool
     requires parts { held.now.parts ≤ 10_000 }
     requires records { held.now.records ≤ 200_000 }
-    ensures parts { result ≡ true → held.now.parts + more ≤ 10_000 }
-    ensures records { result ≡ true → held.now.records + more ≤ 200_000 }
+    ensures parts { result ≡ true → held.now.parts + parts ≤ 10_000 }
+    ensures records { result ≡ true → held.now.records + rows ≤ 200_000 }
 {
-    more <= PART_LIMIT - held.parts && more <= RECORD_LIMIT - held.records
+    parts <= PART_LIMIT - held.parts && rows <= RECORD_LIMIT - held.records
 }
 
 fn counted_room(held: &Held, store: &Store, rows: &[(Key, Record)]) -> Option<Refusal>

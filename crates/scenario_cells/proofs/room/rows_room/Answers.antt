@@ -13,6 +13,6 @@ returns-then-fits c =
     let a = held_contents cells h in
     let later = all_put c.args.rows.now in
     let o = contents_ordered cells h in
-    let parts : part_count (laid_over a later) ≤ 10_000 = omega (arith, parts_bound a later o, puts_length c.args.rows.now, c.requires.held.parts, c.fits.ensures.parts c.if-fits.true) in
+    let parts : part_count (laid_over a later) ≤ 10_000 = omega (arith, parts_bound a c.args.rows.now o, c.part_rows.ensures, c.requires.held.parts, c.fits.ensures.parts c.if-fits.true) in
     let records : length (laid_over a later) ≤ 200_000 = omega (arith, rows_bound a later o, puts_length c.args.rows.now, c.requires.held.records, c.fits.ensures.records c.if-fits.true) in
     sym (within (part_count (laid_over a later)) (length (laid_over a later)) parts records)

@@ -1,5 +1,5 @@
 -- A pair put in place or taken out: lists where an element is set, inserted or removed, and what they show.
-use Rattle.std.proofs.Common.{◌≡◌, ℕ, ◌+◌, ◌<◌, ◌≤◌, List, [], ◌∷◌, ◌++◌, length, get_or, take, drop, sym, ◌∙◌, ap, subst, arith, slice_set, zero, suc, append_assoc, refl}
+use Rattle.std.proofs.Common.{◌≡◌, ℕ, ◌+◌, ◌<◌, ◌≤◌, List, [], ◌∷◌, ◌++◌, length, get_or, take, drop, sym, ◌∙◌, ap, subst, arith, slice_set, zero, suc, append_assoc, refl, length-append}
 use Rattle.std.proofs.lemmas.List.{take-append-drop, take-set, drop-set, length-set}
 use Rattle.std.proofs.lemmas.Grind.{common_steps}
 use Rattle.std.specs.List.{insert, remove}
@@ -80,6 +80,14 @@ module _ {K V Z : Type 0} (cmp : K → K → Ordering) (k : K) (ps : List (Arc (
       all_set ps i (arc_with_value q new) lt
       ∙ (λ j. all_pairs (take i ps) ++ ((e ∙ ap arc_value is) j ++ all_pairs (drop (i + 1) ps)))
       ∙ sym (all_cut ps i q lt)
+
+  pub count_put : (n : ℕ) (new : List (K × V)) → length new ≡ length (arc_value q) + n → length (all_pairs (slice_set ps i (arc_with_value q new))) ≡ length (all_pairs ps) + n
+  count_put n new e =
+      let front = all_pairs (take i ps) in
+      let back = all_pairs (drop (i + 1) ps) in
+      let after = ap length (all_set ps i (arc_with_value q new) lt) ∙ length-append front (new ++ back) ∙ ap (λ m. length front + m) (length-append new back) in
+      let before = ap length (all_cut ps i q lt) ∙ ap (λ p. length (front ++ (arc_value p ++ back))) (sym is) ∙ length-append front (arc_value q ++ back) ∙ ap (λ m. length front + m) (length-append (arc_value q) back) in
+      omega (arith, after, before, e)
 
 -- a pair taken out in place
 module _ {K V Z : Type 0} (cmp : K → K → Ordering) (k : K) (es : List (K × Arc V Z)) (i : ℕ) (at : IsAt cmp k es i) where

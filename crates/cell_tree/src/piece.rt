@@ -1,7 +1,7 @@
 //! A piece of a tree: its least shared part.
 ghost use Rattle.std.specs.Prelude.{◌≡◌, ◌+◌, ◌<◌, ◌≤◌, [], ◌∷◌};
 ghost use Rattle.std.specs.Prelude.{◌++◌, length, IfOk, OnOk, OnErr, Some, unwrap_or};
-ghost use Rattle.std.specs.Prelude.{slice_get};
+ghost use Rattle.std.specs.Prelude.{slice_get, if◌then◌else◌};
 ghost use Rattle.std.specs.List.Sorted.{IsStrictlySortedBy};
 ghost use Rattle.std.specs.Option.{option_map};
 ghost use Rattle.std.specs.Arc.{arc_value};
@@ -87,10 +87,12 @@ impl<K: Ord + Copy, V: Drop> Piece<K, V> {
         Piece::parted(pairs, lower)
     }
 
-    /// Puts the value under the key in place: an error where there is no room for one more pair.
-    pub(crate) fn put(&mut self, key: K, value: &Arc<V>) -> Result<(), AllocError>
+    /// Puts the value under the key in place, and tells whether the key is new: an error where there is no room for one more pair.
+    pub(crate) fn put(&mut self, key: K, value: &Arc<V>) -> Result<bool, AllocError>
         ensures ok { OnOk result (self.new
             ≡ insert_entry K.cmp self.old key (arc_value value.now)) }
+        ensures len { IfOk result (λ new. length self.new
+            ≡ length self.old + (if new then 1 else 0)) }
         ensures err { OnErr result (self.new ≡ self.old) }
     {
         let value = Arc::try_clone(value)?;
@@ -98,14 +100,14 @@ impl<K: Ord + Copy, V: Drop> Piece<K, V> {
             Ok(place) => {
                 let pair = &mut self.pairs[place];
                 pair.1 = value;
-                Ok(())
+                Ok(false)
             }
             Err(place) => {
                 if self.pairs.len() >= MOST {
                     return Err(AllocError);
                 }
                 self.pairs.insert(place, (key, value))?;
-                Ok(())
+                Ok(true)
             }
         }
     }

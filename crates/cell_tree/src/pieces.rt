@@ -1,6 +1,6 @@
 //! The pieces of a tree that has pairs.
 ghost use Rattle.std.specs.Prelude.{◌≡◌, ◌+◌, ◌<◌, [], ◌∷◌, ◌++◌, length, IfOk, OnOk, OnErr, IfSome, IsSome, Some};
-ghost use Rattle.std.specs.Prelude.{unwrap_or, slice_get, take, drop};
+ghost use Rattle.std.specs.Prelude.{unwrap_or, slice_get, take, drop, if◌then◌else◌};
 ghost use Rattle.std.specs.Option.{option_map};
 ghost use Rattle.std.specs.Arc.{arc_value};
 ghost use Rattle.std.specs.List.Sorted.{IsStrictlySortedBy};
@@ -100,11 +100,13 @@ impl<K: Ord + Copy, V: Drop> Pieces<K, V> {
         ensures ok { OnOk result (self.new ≡ insert_entry K.cmp self.old key (arc_value value)) }
         ensures err { OnErr result (self.new ≡ self.old) }
     {
-        let len = self.len_with(&key).ok_or(AllocError)?;
+        let more = self.len.checked_add(1).ok_or(AllocError)?;
         let place = piece_for(&self.list, &key);
         match put_within(&mut self.list, place, key, &value) {
-            Ok(()) => {
-                self.len = len;
+            Ok(new) => {
+                if new {
+                    self.len = more;
+                }
                 Ok(())
             }
             Err(_) => {
@@ -224,20 +226,22 @@ fn replaced<K: Ord + Copy, V: Drop>(
     Ok(list)
 }
 
-// Puts the value under the key in the piece at a place, which is for the key. An error where another tree shares the piece, or it has
-// no room.
+// Puts the value under the key in the piece at a place, which is for the key, and tells whether the key is new. An error where another
+// tree shares the piece, or it has no room.
 fn put_within<K: Ord + Copy, V: Drop>(
     pieces: &mut Vec<Arc<Piece<K, V>>>,
     place: usize,
     key: K,
     value: &Arc<V>,
-) -> Result<(), AllocError>
+) -> Result<bool, AllocError>
     requires in_range { place < length pieces.old.items }
     requires below { IsBelow K.cmp key (all_pairs (take place pieces.old.items)) }
     requires above { IsAbove K.cmp key (all_pairs (drop (place + 1) pieces.old.items)) }
     ensures ok { OnOk result (all_pairs pieces.new.items
         ≡ insert_entry K.cmp (all_pairs pieces.old.items) key (arc_value value.now)) }
     ensures err { OnErr result (all_pairs pieces.new.items ≡ all_pairs pieces.old.items) }
+    ensures count { IfOk result (λ new. length (all_pairs pieces.new.items)
+        ≡ length (all_pairs pieces.old.items) + (if new then 1 else 0)) }
     ensures len { length pieces.new.items ≡ length pieces.old.items }
 {
     match Arc::get_mut(&mut pieces[place]) {

@@ -1,5 +1,5 @@
 //! The pieces of a tree that has pairs.
-ghost use Rattle.std.specs.Prelude.{◌≡◌, ◌+◌, ◌<◌, [], ◌∷◌, ◌++◌, length, IfOk, OnOk, OnErr, IfSome, IsSome, Some};
+ghost use Rattle.std.specs.Prelude.{◌≡◌, ◌+◌, ◌<◌, ◌≤◌, [], ◌∷◌, ◌++◌, length, IfOk, OnOk, OnErr, IfSome, IsSome, Some};
 ghost use Rattle.std.specs.Prelude.{unwrap_or, slice_get, take, drop, if◌then◌else◌};
 ghost use Rattle.std.specs.Option.{option_map};
 ghost use Rattle.std.specs.Arc.{arc_value};
@@ -90,8 +90,11 @@ impl<K: Ord + Copy, V: Drop> Pieces<K, V> {
     pub(crate) fn with(&self, key: K, value: Arc<V>) -> Result<Self, AllocError>
         ensures { IfOk result (λ p. p ≡ insert_entry K.cmp self.now key (arc_value value)) }
     {
-        let len = self.len_with(&key).ok_or(AllocError)?;
-        let list = self.list_with(key, value)?;
+        let place = piece_for(&self.list, &key);
+        let old = &self.list[place];
+        let (lower, upper) = old.with(key, value)?;
+        let len = recounted(self.len, old, &lower, &upper).ok_or(AllocError)?;
+        let list = replaced(&self.list, place, Some(lower), upper)?;
         Ok(Pieces { list, len })
     }
 
@@ -151,28 +154,6 @@ impl<K: Ord + Copy, V: Drop> Pieces<K, V> {
         Ok(())
     }
 
-    // How many pairs there are with one under the key: nothing where they are too many to count.
-    fn len_with(&self, key: &K) -> Option<usize>
-        ensures { IfSome result (λ n. (value : V)
-            → n ≡ length (insert_entry K.cmp self.now key.now value)) }
-    {
-        if self.get(key).is_some() {
-            Some(self.len)
-        } else {
-            self.len.checked_add(1)
-        }
-    }
-
-    fn list_with(&self, key: K, value: Arc<V>) -> Result<Vec<Arc<Piece<K, V>>>, AllocError>
-        ensures pairs { IfOk result (λ v. all_pairs v.items
-            ≡ insert_entry K.cmp self.now key (arc_value value)) }
-        ensures sorted { IfOk result (λ v. IsStrictlySortedBy K.cmp (keys_of (all_pairs v.items))) }
-    {
-        let place = piece_for(&self.list, &key);
-        let (lower, upper) = self.list[place].with(key, value)?;
-        replaced(&self.list, place, Some(lower), upper)
-    }
-
     fn list_without(&self, key: &K) -> Result<Vec<Arc<Piece<K, V>>>, AllocError>
         ensures pairs { IfOk result (λ v. all_pairs v.items
             ≡ remove_entry (is_at (K.cmp key.now)) self.now) }
@@ -203,6 +184,26 @@ fn piece_for<K: Ord + Copy, V>(pieces: &[Arc<Piece<K, V>>], key: &K) -> usize
         }
     }
     low - 1
+}
+
+// How many pairs there are with new pieces in place of an old one: nothing where they are too many to count.
+fn recounted<K: Ord + Copy, V>(
+    len: usize,
+    old: &Piece<K, V>,
+    lower: &Piece<K, V>,
+    upper: &Option<Piece<K, V>>,
+) -> Option<usize>
+    requires { length old.now ≤ len }
+    ensures { IfSome result (λ n. n + length old.now
+        ≡ len + length (lower.now ++ unwrap_or upper.now [])) }
+{
+    let upper = match upper {
+        Some(piece) => piece.pairs().len(),
+        None => 0,
+    };
+    (len - old.pairs().len())
+        .checked_add(lower.pairs().len())?
+        .checked_add(upper)
 }
 
 // Shares of the pieces, with new pieces, if there are any, in place of the one at a place.

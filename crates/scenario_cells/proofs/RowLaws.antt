@@ -23,7 +23,7 @@ use Rattle.version_rules.specs.Meaning.{IsMeant, AreMeant}
 use Rattle.version_rules.proofs.CellRows.{rows_apart}
 use Rattle.version_rules.proofs.Meant.{meant_id}
 use Rattle.scenario_cells.specs.Held.{KeepsOlder}
-use Rattle.scenario_cells.specs.Rows.{renewed_ids, store_with}
+use Rattle.scenario_cells.specs.Rows.{renewed_ids, store_with, new_id, new_rows}
 
 -- the id of a cell, where one cell's is renewed
 pub id_renewed : (ids : IdList) (id : VersionId) (rows : Contents) (q : CellName) → are_ordered_ids ids ≡ true
@@ -92,6 +92,9 @@ not_same a b h = by_cases (id_eq a b) refl
 
 pub keeps_older : (cells : CellList) (id : VersionId) (rows : Contents) → KeepsOlder id.point cells (store_with cells id rows)
 keeps_older cells id rows other h = stored_other cells id other rows (not_same other id (λ e. h (ap (λ i. i.point) e)))
+
+pub row_keeps : (cells cells' : CellList) (point : ℕ) (ids : IdList) (key : Key) (new : Option Record) → cells' ≡ store_with cells (new_id point key) (new_rows cells ids key new) → KeepsOlder point cells cells'
+row_keeps cells cells' point ids key new is = subst (λ (after : CellList). KeepsOlder point cells after) (sym is) (keeps_older cells (new_id point key) (new_rows cells ids key new))
 
 -- what the ids mean after a change of one row
 pub row_means : (cells : CellList) (point : ℕ) (ids : IdList) (c : Contents) (key : Key) (new : Option Record) → are_ordered_ids ids ≡ true → is_ordered c ≡ true → AreMeant (cell_at cells) c (id_at ids)

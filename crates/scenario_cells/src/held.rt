@@ -9,7 +9,7 @@ ghost use Rattle.scenario_cells.specs.Held.{IsHeld, IsReady, IsChanged, KeepsOld
 ghost use Rattle.scenario_cells.specs.Loads as spec;
 ghost use Rattle.scenario_cells.specs.Loads.{IsNextLoaded};
 
-use crate::rows::{put_row, put_row_in, recount, recount_if, row};
+use crate::rows::{put_row, put_row_in, recount, recount_if};
 use cell_tree::Tree;
 use plan_schema::{Key, Name, Record};
 use record_versions::{Ids, Store};
@@ -48,16 +48,15 @@ pub fn change_row(
     ensures err { OnErr result (held.new ≡ held.old) }
     ensures keeps { KeepsOlder point store.old store.new }
 {
-    let had = row(&held.ids, store, key).is_some();
+    let new = put_row(alloc, &held.ids, store, point, key, value)?;
     let has = value.is_some();
-    let records = recount(held.records, had, has)?;
+    let records = recount(held.records, new.had, has)?;
     let part = key.is_part();
-    let parts = recount_if(part, held.parts, had, has)?;
-    let ids = put_row(alloc, &held.ids, store, point, key, value)?;
-    let base = either(root, &ids, &held.base)?;
+    let parts = recount_if(part, held.parts, new.had, has)?;
+    let base = either(root, &new.ids, &held.base)?;
     add_own(alloc, &mut held.own, root, key, value)?;
     held.base = base;
-    held.ids = ids;
+    held.ids = new.ids;
     held.parts = parts;
     held.records = records;
     Ok(())
@@ -145,13 +144,12 @@ fn load_row(
         store.new loaded.new) }
     ensures keeps { KeepsOlder point store.old store.new }
 {
-    let had = row(&loaded.ids, store, key).is_some();
+    let had = put_row_in(alloc, &mut loaded.ids, store, point, key, value)?;
     let has = value.is_some();
     let records = recount(loaded.records, had, has)?;
     let part = key.is_part();
     let parts = recount_if(part, loaded.parts, had, has)?;
     add_own(alloc, &mut loaded.own, root, key, value)?;
-    put_row_in(alloc, &mut loaded.ids, store, point, key, value)?;
     loaded.parts = parts;
     loaded.records = records;
     Ok(())

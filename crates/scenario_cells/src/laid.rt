@@ -102,7 +102,8 @@ fn lay_id(
     if same_ids(above.ids.get(&cell), child.base.get(&cell)) {
         return set_id(ids, &cell, child.ids.get(&cell));
     }
-    put_row_in(alloc, ids, store, point, key, value)
+    put_row_in(alloc, ids, store, point, key, value)?;
+    Ok(())
 }
 
 fn same_ids(id: Option<&VersionId>, other: Option<&VersionId>) -> bool

@@ -28,25 +28,37 @@ pub fn row<'a>(ids: &Ids, store: &'a Store, key: &Key) -> Option<&'a Record>
     }
 }
 
+/// A cell after a change, and whether there was a row under the key of the change before.
+#[derive(Drop)]
+pub(crate) struct Changed {
+    cell: Cell,
+    had: bool,
+}
+
 /// A cell with a record put under a key, or taken away.
-fn with_change(cell: &Cell, key: &Key, value: &Option<Record>) -> Result<Cell, AllocError>
-    ensures { IfOk result (λ new. new ≡ changed cell.now key.now value.now) }
+fn with_change(cell: &Cell, key: &Key, value: &Option<Record>) -> Result<Changed, AllocError>
+    ensures cell { IfOk result (λ new. new.cell ≡ changed cell.now key.now value.now) }
+    ensures had { IfOk result (λ new. new.had ≡ is_some (record_at cell.now key.now)) }
 {
-    match value {
-        Some(value) => cell.with(*key, *value),
-        None => cell.without(key),
-    }
+    let had = cell.get(key).is_some();
+    let cell = match value {
+        Some(value) => cell.with(*key, *value)?,
+        None => cell.without(key)?,
+    };
+    Ok(Changed { cell, had })
 }
 
 /// The cell of a key after a change.
-pub(crate) fn changed_cell(
+fn changed_cell(
     alloc: Global,
     ids: &Ids,
     store: &Store,
     key: &Key,
     value: &Option<Record>,
-) -> Result<Cell, AllocError>
-    ensures { IfOk result (λ cell. cell ≡ new_rows store.now ids.now key.now value.now) }
+) -> Result<Changed, AllocError>
+    ensures cell { IfOk result (λ new. new.cell ≡ new_rows store.now ids.now key.now value.now) }
+    ensures had { IfOk result (λ new. new.had ≡ is_some (record_at
+        (rows_in (cell_at store.now) ids.now (key_spec.cell_of key.now)) key.now)) }
 {
     match ids.get(&cell_of(key)) {
         Some(id) => match store.get(id) {
@@ -68,6 +80,13 @@ pub(crate) fn renewed(ids: &Ids, id: &VersionId, cell: &Cell) -> Result<Ids, All
     }
 }
 
+/// The ids after a change, and whether there was a record under the key of the change before.
+#[derive(Drop)]
+pub(crate) struct PutRow {
+    pub(crate) ids: Ids,
+    pub(crate) had: bool,
+}
+
 /// Puts a record under a key or takes it away: the key's cell gets a new id, and the store the cell.
 pub(crate) fn put_row(
     alloc: Global,
@@ -76,23 +95,25 @@ pub(crate) fn put_row(
     point: u64,
     key: &Key,
     value: &Option<Record>,
-) -> Result<Ids, AllocError>
-    ensures ids { IfOk result (λ new. new
+) -> Result<PutRow, AllocError>
+    ensures ids { IfOk result (λ new. new.ids
         ≡ renewed_ids ids.now (new_id point key.now)
         (new_rows store.old ids.now key.now value.now)) }
     ensures store { OnOk result (store.new
         ≡ store_with store.old (new_id point key.now)
         (new_rows store.old ids.now key.now value.now)) }
+    ensures had { IfOk result (λ new. new.had ≡ is_some (record_at
+        (rows_in (cell_at store.old) ids.now (key_spec.cell_of key.now)) key.now)) }
     ensures err { OnErr result (store.new ≡ store.old) }
 {
-    let cell = changed_cell(alloc, ids, store, key, value)?;
+    let Changed { cell, had } = changed_cell(alloc, ids, store, key, value)?;
     let id = VersionId {
         point,
         cell: cell_of(key),
     };
     let ids = renewed(ids, &id, &cell)?;
     keep_cell(store, &id, cell)?;
-    Ok(ids)
+    Ok(PutRow { ids, had })
 }
 
 /// Gives a cell a new id: none where the cell has no rows.
@@ -107,7 +128,8 @@ fn renew(ids: &mut Ids, id: &VersionId, cell: &Cell) -> Result<(), AllocError>
     }
 }
 
-/// Puts a record under a key or takes it away, as `put_row` does, in ids of the caller's own. After an error these are of no use.
+/// Puts a record under a key or takes it away, as `put_row` does, in ids of the caller's own, and tells whether there was a record under
+/// the key. After an error the ids are of no use.
 pub(crate) fn put_row_in(
     alloc: Global,
     ids: &mut Ids,
@@ -115,22 +137,25 @@ pub(crate) fn put_row_in(
     point: u64,
     key: &Key,
     value: &Option<Record>,
-) -> Result<(), AllocError>
+) -> Result<bool, AllocError>
     ensures ids { OnOk result (ids.new
         ≡ renewed_ids ids.old (new_id point key.now)
         (new_rows store.old ids.old key.now value.now)) }
     ensures store { OnOk result (store.new
         ≡ store_with store.old (new_id point key.now)
         (new_rows store.old ids.old key.now value.now)) }
+    ensures had { IfOk result (λ had. had ≡ is_some (record_at
+        (rows_in (cell_at store.old) ids.old (key_spec.cell_of key.now)) key.now)) }
     ensures err { OnErr result (store.new ≡ store.old) }
 {
-    let cell = changed_cell(alloc, ids, store, key, value)?;
+    let Changed { cell, had } = changed_cell(alloc, ids, store, key, value)?;
     let id = VersionId {
         point,
         cell: cell_of(key),
     };
     renew(ids, &id, &cell)?;
-    keep_cell(store, &id, cell)
+    keep_cell(store, &id, cell)?;
+    Ok(had)
 }
 
 /// Keeps a cell that has rows.

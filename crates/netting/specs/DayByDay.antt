@@ -1,5 +1,5 @@
 -- Netting day by day.
-use Rattle.std.specs.Prelude.{◌≡◌, ℕ, ◌+◌, List, [], take}
+use Rattle.std.specs.Prelude.{◌≡◌, ℕ, ◌+◌, List, [], take, length}
 use Rattle.std.specs.List.{sum}
 use Rattle.plan_schema.specs.declared.key.Lot.{Lot}
 use Rattle.plan_schema.specs.declared.key.Lot.TheVariants as lots
@@ -14,6 +14,10 @@ pub record IsPlannedTo (x : Input) (t : ℕ) (p : List ℕ) (balance : ℕ) : Ty
 -- of a part with least-cost lots, the orders are the best list for what is short over the whole horizon
 abbrev pub AreBest : Input → List ℕ → Type 0
 AreBest x orders = (setup hold : ℕ) → x.lot ≡ lots.Best setup hold → orders ≡ best setup hold (needs (shortages_of x))
+
+-- of a part with least-cost lots, there is an order for each day
+abbrev pub AreForDays : Input → List ℕ → Type 0
+AreForDays x orders = (setup hold : ℕ) → x.lot ≡ lots.Best setup hold → length orders ≡ length x.gross
 
 -- the input that begins at a day, with the balance before it as its stock
 abbrev pub begun : Lot → ℕ → ℕ → List ℕ → List ℕ → Input

@@ -7,7 +7,7 @@ ghost use Rattle.planning_rules.specs.Netting.{is_too_large, outcome_from};
 ghost use Rattle.plan_schema.specs.Sound.{is_sound_lot};
 ghost use Rattle.planning_rules.specs.Shortages.{shortage, InReach};
 ghost use Rattle.planning_rules.specs.Amounts.{is_best};
-ghost use Rattle.netting.specs.DayByDay.{IsPlannedTo, AreBest, begun};
+ghost use Rattle.netting.specs.DayByDay.{IsPlannedTo, AreBest, AreForDays, begun};
 ghost use Rattle.netting.specs.Inputs.{IsWithin, given, WhereLarge, told};
 ghost use Rattle.netting.specs.Shortages.{shortages};
 ghost use Rattle.netting.specs.Windows.{looked};
@@ -107,19 +107,22 @@ fn order_of(
     lot(rule, short)
 }
 
-/// The best list of a part with least-cost lots, for the whole horizon; of any other part nothing is written.
-fn fill_orders(input: &Input, short: &mut [i64], orders: &mut [u64])
+/// The best list of a part with least-cost lots, for the whole horizon, and a place for as many shortages; of any other part none.
+fn best_orders(alloc: Global, input: &Input, short: &mut [i64]) -> Result<Vec<u64>, AllocError>
     requires within { IsWithin input.now }
     requires room { length short.old ≡ length input.now.gross }
-    requires days { length orders.old ≡ length input.now.gross }
-    ensures { AreBest (given input.now) orders.new }
+    ensures best { IfOk result (λ orders. AreBest (given input.now) orders.items) }
+    ensures days { IfOk result (λ orders. AreForDays (given input.now) orders.items) }
 {
-    if let Lot::Best { setup, hold } = input.lot {
-        let gross = input.gross.as_slice();
-        let sched = input.sched.as_slice();
-        fill_short(short, input.stock, input.safety, gross, sched);
-        fill_best(setup, hold, short, orders);
-    }
+    let Lot::Best { setup, hold } = input.lot else {
+        return Ok(Vec::new(alloc));
+    };
+    let gross = input.gross.as_slice();
+    let sched = input.sched.as_slice();
+    let mut orders = vec![in alloc; 0u64; gross.len()]?;
+    fill_short(short, input.stock, input.safety, gross, sched);
+    fill_best(setup, hold, short, orders.as_mut_slice());
+    Ok(orders)
 }
 
 /// The order of the day after those planned, from the balance before it: of a least-cost lot that of the best list, which is the same as
@@ -136,7 +139,7 @@ fn next_order(
     requires balance { balance ≤ 600000000000000000 }
     requires going { IsPlannedTo (given input.now) (length planned.now) planned.now balance }
     requires orders { AreBest (given input.now) orders.now }
-    requires days { length orders.now ≡ length input.now.gross }
+    requires days { AreForDays (given input.now) orders.now }
     requires room { length short.old ≡ length input.now.gross }
     ensures { IsOrder (given input.now) (sum planned.now) (length planned.now) result }
 {
@@ -164,6 +167,17 @@ struct Days {
     balance: Vec<u64>,
 }
 
+/// No days, with room for so many.
+fn no_days(alloc: Global, count: usize) -> Result<Days, AllocError>
+    ensures planned { IfOk result (λ days. days.planned.items ≡ []) }
+    ensures balance { IfOk result (λ days. days.balance.items ≡ []) }
+{
+    Ok(Days {
+        planned: Vec::with_capacity(alloc, count)?,
+        balance: Vec::with_capacity(alloc, count)?,
+    })
+}
+
 /// The orders of all days, and the balances.
 fn plan_days(alloc: Global, input: &Input) -> Result<Days, NetFault>
     requires { IsWithin input.now }
@@ -177,13 +191,21 @@ fn plan_days(alloc: Global, input: &Input) -> Result<Days, NetFault>
 {
     let gross = input.gross.as_slice();
     let sched = input.sched.as_slice();
-    let mut short = [0i64; 400];
-    let mut orders = [0u64; 400];
-    let short = &mut short[..gross.len()];
-    let orders = &mut orders[..gross.len()];
-    fill_orders(input, short, orders);
-    let mut planned = Vec::new(alloc);
-    let mut balances = Vec::new(alloc);
+    let Ok(mut short) = vec![in alloc; 0i64; gross.len()] else {
+        return Err(NetFault::Memory);
+    };
+    let short = short.as_mut_slice();
+    let Ok(orders) = best_orders(alloc, input, short) else {
+        return Err(NetFault::Memory);
+    };
+    let orders = orders.as_slice();
+    let Ok(days) = no_days(alloc, gross.len()) else {
+        return Err(NetFault::Memory);
+    };
+    let Days {
+        mut planned,
+        balance: mut balances,
+    } = days;
     let mut balance = input.stock;
     for day in 0..gross.len() {
         let order = next_order(input, planned.as_slice(), balance, orders, short);

@@ -46,7 +46,7 @@ impl Calendar {
         ensures { result ≡ worked_days start.now days week.now holidays.now }
     {
         let first = start.number();
-        let mut works = weeks(first, week);
+        let mut works = weeks(first, days, week);
         for holiday in holidays.as_slice() {
             close(&mut works, first, holiday.number());
         }
@@ -85,15 +85,16 @@ impl Calendar {
     }
 }
 
-/// The days from a date on, by the week alone.
-fn weeks(start: u32, week: &[bool; 7]) -> [bool; 400]
-    requires { start < 36525 }
-    ensures { (t : ℕ) → t < 400
+/// So many days from a date on, by the week alone.
+fn weeks(start: u32, days: u16, week: &[bool; 7]) -> [bool; 400]
+    requires start { start < 36525 }
+    requires days { days ≤ 400 }
+    ensures { (t : ℕ) → t < days
         → slice_index_or result t false ≡ week_works week.now [] (start + t) }
 {
     let mut works = [false; 400];
-    for (day, mark) in works.iter_mut().enumerate() {
-        *mark = week[(start as usize + day + 5) % 7];
+    for day in 0..days as usize {
+        works[day] = week[(start as usize + day + 5) % 7];
     }
     works
 }

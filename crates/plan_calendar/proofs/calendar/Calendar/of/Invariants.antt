@@ -6,5 +6,5 @@ abbrev pub invariant-loop-holiday : goal.invariant-loop-holiday
 invariant-loop-holiday l =
     record {
       whole : length l.works ≡ 400;
-      marks : (t : ℕ) → t < 400 → get_or l.works t false ≡ week_works l.week (take l.holiday-index l.holidays) (l.start + t);
+      marks : (t : ℕ) → t < l.days → get_or l.works t false ≡ week_works l.week (take l.holiday-index l.holidays) (l.start + t);
     }

@@ -1,8 +1,8 @@
 -- Sums grow row by row.
-use Rattle.std.proofs.Common.{◌≡◌, ℕ, zero, suc, ◌+◌, ◌*◌, ◌<◌, ◌≤◌, List, [], ◌∷◌, ◌++◌, length, take, replicate, get_or, refl, sym, ◌∙◌, ap, subst, arith, Bool, true, false, cond, ◌&&◌, nat_le, nat_lt, ◌||◌, ◌^◌, All, append_assoc, inl, inr}
+use Rattle.std.proofs.Common.{◌≡◌, ℕ, zero, suc, ◌+◌, ◌*◌, ◌<◌, ◌≤◌, List, [], ◌∷◌, ◌++◌, length, get_or, refl, sym, ◌∙◌, ap, subst, arith, Bool, true, false, cond, ◌&&◌, nat_le, ◌^◌, All, append_assoc, inl, inr}
 use Rattle.std.proofs.Math.Nat.{mul-le-mul}
 use Rattle.plan_schema.specs.Sound.{is_sound_key, record_has_names, is_within, is_sound_span}
-use Rattle.std.proofs.lemmas.List.Elements.{filter_map-append, All-from_recursion, recursion_from_All}
+use Rattle.std.proofs.lemmas.List.Elements.{filter_map-append, All-from_recursion}
 use Rattle.std.proofs.lemmas.List.Sums.{sum_by-append}
 use Rattle.std.proofs.lemmas.List.FromFn.{length-map-range_with_len, get_or-map-range_with_len}
 use Rattle.std.specs.Prelude.{Some, None, slice_index, filter_map}
@@ -10,7 +10,7 @@ use Rattle.std.specs.List.{AllByRecursion}
 use Rattle.std.proofs.lemmas.Bool.{and_parts, cases_lt}
 use Rattle.std.proofs.lemmas.Bool.Decides.{nat_tests}
 use Rattle.plan_schema.specs.Sound.{is_sound_row, are_sound_rows}
-use Rattle.planning_rules.specs.Netting.{limit, exceeds}
+use Rattle.planning_rules.specs.Netting.{limit}
 use Rattle.plan_schema.specs.declared.name.Name.{Name}
 use Rattle.plan_schema.specs.declared.key.Key.{Key}
 use Rattle.plan_schema.specs.declared.key.Key.TheVariants as keys
@@ -204,13 +204,6 @@ room_more start days i next lists sums more row sound all same room each t =
       | inr far ↦ let none = beyond more t (subst (λ n. n ≤ t) (sym same) far) in omega arith
     ]
 
--- a part of a list of zeros
-pub zeros : (n m t : ℕ) → slice_index (take n (replicate m 0)) t ≡ 0
-zeros zero m t = refl
-zeros (suc n) zero t = refl
-zeros (suc n) (suc m) zero = refl
-zeros (suc n) (suc m) (suc t) = zeros n m t
-
 -- scheduled receipts -----------------------------------------------------------------------------------------------------------
 
 receipts_more : (start t : ℕ) (rows : List (Key × Record)) (row : Key × Record) → total (counted start t (receipts_in (rows ++ row ∷ []))) ≡ total (counted start t (receipts_in rows)) + receipt_adds start row t
@@ -348,13 +341,3 @@ all_small most xs h = All-from_recursion (λ x. x ≤ most) xs (each xs h)
     each : (xs : List ℕ) → ((t : ℕ) → slice_index xs t ≤ most) → AllByRecursion (λ x. x ≤ most) xs
     each [] h = tt
     each (x ∷ xs) h = (h 0, each xs (λ t. h (suc t)))
-
--- small numbers don't exceed the limit
-pub none_exceeds : (xs : List ℕ) → All (λ x. x ≤ 200_000_000_000_000) xs → exceeds xs ≡ false
-none_exceeds xs h = each xs (recursion_from_All (λ x. x ≤ 200_000_000_000_000) xs h)
-  where
-    each : (xs : List ℕ) → AllByRecursion (λ x. x ≤ 200_000_000_000_000) xs → exceeds xs ≡ false
-    each [] h = refl
-    each (x ∷ xs) h =
-        let small : nat_lt limit x ≡ false = let bound = h.0 in grind (arith, nat_tests) in
-        ap (λ b. b || exceeds xs) small ∙ each xs h.1

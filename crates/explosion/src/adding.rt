@@ -7,13 +7,20 @@ ghost use Rattle.explosion.specs.Sums.{order_adds, bill_adds, row_adds, receipt_
 
 use plan_schema::{Key, Record, Release, Span};
 
+/// The day of the horizon on which an order counts, if the horizon is that long: an overdue one counts on the first.
+fn day_of(start: u32, date: u32) -> usize
+    ensures { result ≡ date - start }
+{
+    date.saturating_sub(start) as usize
+}
+
 /// Adds an order to the day on which it counts, if it counts on one of the days.
 pub fn add_order(sums: &mut [u128], start: u32, date: u32, qty: u64)
     requires room { (t : ℕ) → slice_index sums.old t < 2 ^ 100 }
     ensures sums { (t : ℕ) → t < length sums.old → slice_index sums.new t
         ≡ slice_index sums.old t + order_adds start date qty t }
 {
-    let at = date.saturating_sub(start) as usize;
+    let at = day_of(start, date);
     if at < sums.len() {
         sums[at] += qty as u128;
     }
@@ -88,15 +95,29 @@ pub fn add_row(
     }
 }
 
+/// Adds a receipt to the day on which it counts, if it counts on one of the days.
+fn add_received(sums: &mut [u64], start: u32, date: u32, qty: u64)
+    requires room { (t : ℕ) → slice_index sums.old t ≤ 200000000000000 }
+    requires qty { qty ≤ 1000000000 }
+    ensures sums { (t : ℕ) → t < length sums.old → slice_index sums.new t
+        ≡ slice_index sums.old t + order_adds start date qty t }
+{
+    let at = day_of(start, date);
+    if at < sums.len() {
+        sums[at] += qty;
+    }
+}
+
 /// Adds what a row says is received.
-pub fn add_receipt(sums: &mut [u128], start: u32, key: &Key, value: &Record)
-    requires room { (t : ℕ) → slice_index sums.old t < 2 ^ 100 }
+pub fn add_receipt(sums: &mut [u64], start: u32, key: &Key, value: &Record)
+    requires room { (t : ℕ) → slice_index sums.old t ≤ 200000000000000 }
+    requires sound { is_sound_row key.now value.now ≡ true }
     ensures sums { (t : ℕ) → t < length sums.old → slice_index sums.new t
         ≡ slice_index sums.old t + receipt_adds start (key.now, value.now) t }
 {
     match (key, value) {
         (Key::Receipt(_, _), Record::Receipt { day, qty }) => {
-            add_order(sums, start, day.number(), *qty);
+            add_received(sums, start, day.number(), *qty);
         }
         _ => (),
     }

@@ -72,14 +72,15 @@ pub fn gross(
         → exceeds (gross_by cell.now start.now days releases.now) ≡ true }
 {
     let days = days as usize;
-    let mut sums = [0u128; 400];
-    let sums = &mut sums[..days];
-    add_rows(sums, cell, start.number(), releases);
-    Ok(Series::from_vec(fitted(alloc, sums)?))
+    let Ok(mut sums) = vec![in alloc; 0u128; days] else {
+        return Err(NetFault::Memory);
+    };
+    add_rows(sums.as_mut_slice(), cell, start.number(), releases);
+    Ok(Series::from_vec(fitted(alloc, sums.as_slice())?))
 }
 
 /// Adds what the rows of a part's cell say is received on each day.
-fn add_receipts(sums: &mut [u128], cell: &Cell, start: u32)
+fn add_receipts(sums: &mut [u64], cell: &Cell, start: u32)
     requires nothing { (t : ℕ) → slice_index sums.old t ≡ 0 }
     requires rows { length cell.now ≤ RECORD_LIMIT }
     requires sound { are_sound_rows cell.now ≡ true }
@@ -99,13 +100,7 @@ pub fn sched(alloc: Global, cell: &Cell, start: &Day, days: u16) -> Result<Quant
     ensures sched { IfOk result (λ sched. sched ≡ sched_by cell.now start.now days) }
     ensures small { IfOk result (All (λ qty. qty ≤ 200000000000000)) }
 {
-    let days = days as usize;
-    let mut sums = [0u128; 400];
-    let sums = &mut sums[..days];
-    add_receipts(sums, cell, start.number());
-    match fitted(alloc, sums) {
-        Ok(sched) => Ok(Series::from_vec(sched)),
-        Err(NetFault::Memory) => Err(AllocError),
-        Err(NetFault::TooLarge) => unreachable!(),
-    }
+    let mut sums = vec![in alloc; 0u64; days as usize]?;
+    add_receipts(sums.as_mut_slice(), cell, start.number());
+    Ok(Series::from_vec(sums))
 }

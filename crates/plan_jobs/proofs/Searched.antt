@@ -66,6 +66,17 @@ found_there (e ∷ es) name (suc i) h l same =
     let apart : cell_eq e.0.cell name ≡ false = ap (λ n. cell_eq e.0.cell n) (sym there) ∙ less_apart (cell_cmp e.0.cell (get_or es i e).0.cell) less in
     found_there es name i two.1 (omega arith) same ∙ λ j. cond (sym apart j) (Some (e.0, arc_value e.1)) (held (cells_of es) name)
 
+is_equal : (o : Ordering) → is_eq o ≡ true → o ≡ Equal
+is_equal Less h = cc
+is_equal Equal h = refl
+is_equal Greater h = cc
+
+-- a cell that stands at a place and has the name sought is the one that is held
+pub found_at : (es : List Shared) (name : CellName) (i : ℕ) (e : Shared) → are_ascending (cells_of es) ≡ true → i < length es → ((d : Shared) → e ≡ get_or es i d) → is_eq (cell_cmp e.0.cell name) ≡ true
+    → slice_get (cells_of es) i ≡ held (cells_of es) name
+found_at es name i e h within at same =
+    found_there es name i h within (λ d. ap (λ (x : Shared). cell_cmp x.0.cell name) (sym (at d)) ∙ is_equal (cell_cmp e.0.cell name) same)
+
 -- where no cell has the name, none is held
 pub found_nowhere : (es : List Shared) (name : CellName) → ((j : ℕ) (d : Shared) → j < length es → is_eq (cell_cmp (get_or es j d).0.cell name) ≡ false) → held (cells_of es) name ≡ None
 found_nowhere [] name h = refl

@@ -1,5 +1,5 @@
 //! The cells that a job holds.
-ghost use Rattle.std.specs.Prelude.{◌≡◌, ◌==◌, true, length, None, MatchOption};
+ghost use Rattle.std.specs.Prelude.{◌≡◌, ◌==◌, true, length, None, MatchOption, IsTrue};
 ghost use Rattle.std.specs.Option.{option_map};
 ghost use Rattle.std.specs.List.{slice_get};
 ghost use Rattle.record_versions.specs.Shown.{cells_of};
@@ -80,6 +80,43 @@ impl CellList {
         let place = place_of(&self.cells, name)?;
         self.at(place)
     }
+
+    /// The cell of a name, and its version. Before it is searched for, it is looked for next to the last place, which becomes its own:
+    /// so names that are asked for in their order, and one that is asked for again, take no search.
+    pub fn get_near(&self, name: &CellName, last: &mut usize) -> Option<(&VersionId, &Cell)>
+        ensures { option_map shown_cell result ≡ held self.now name.now }
+    {
+        let place = place_near(&self.cells, name, *last)?;
+        *last = place;
+        self.at(place)
+    }
+}
+
+/// Whether the cell of a name is the one at a place.
+fn is_at(cells: &[(VersionId, Arc<Cell>)], name: &CellName, place: usize) -> bool
+    requires { are_ascending (cells_of cells.now) ≡ true }
+    ensures { IsTrue result
+        → slice_get (cells_of cells.now) place ≡ held (cells_of cells.now) name.now }
+{
+    match cells.get(place) {
+        Some(cell) => cell.0.cell.compare(name).is_eq(),
+        None => false,
+    }
+}
+
+/// The place of a cell among cells in the order of their names, which is looked for next to a place first.
+fn place_near(cells: &[(VersionId, Arc<Cell>)], name: &CellName, last: usize) -> Option<usize>
+    requires { are_ascending (cells_of cells.now) ≡ true }
+    ensures { MatchOption result (held (cells_of cells.now) name.now ≡ None)
+        (λ place. slice_get (cells_of cells.now) place ≡ held (cells_of cells.now) name.now) }
+{
+    if last < cells.len() && is_at(cells, name, last + 1) {
+        return Some(last + 1);
+    }
+    if is_at(cells, name, last) {
+        return Some(last);
+    }
+    place_of(cells, name)
 }
 
 /// The place of a cell among cells in the order of their names.

@@ -94,7 +94,7 @@ fn all_cells(alloc: Global, ids: &Ids, store: &Store) -> Result<CellList, AllocE
     requires ordered { are_ordered_ids ids.now ≡ true }
     ensures { IfOk result (λ cells. cells ≡ cells_by store.now ids.now) }
 {
-    let mut cells = Vec::new(alloc);
+    let mut cells = Vec::with_capacity(alloc, ids.len())?;
     for (_name, id) in ids.iter() {
         let Some(cell) = store.get(id) else {
             unreachable!()

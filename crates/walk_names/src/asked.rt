@@ -25,7 +25,7 @@ fn add_parts(cell: &Cell, names: &mut Vec<Name>) -> Result<(), AllocError>
 fn all_parts(alloc: Global, cells: &CellList) -> Result<Vec<Name>, AllocError>
     ensures { IfOk result (λ names. names.items ≡ filter_map part_of (records cells.now)) }
 {
-    let mut names = Vec::new(alloc);
+    let mut names = Vec::with_capacity(alloc, cells.len())?;
     let cells = cells.as_slice();
     for (_id, cell) in cells {
         add_parts(cell, &mut names)?;

@@ -34,7 +34,7 @@ fn add_bills(cell: &Cell, bills: &mut Vec<(Name, Name)>) -> Result<(), AllocErro
 pub fn all_bills(alloc: Global, cells: &CellList) -> Result<Vec<(Name, Name)>, AllocError>
     ensures { IfOk result (λ bills. bills.items ≡ filter_map bill_pair (records cells.now)) }
 {
-    let mut bills = Vec::new(alloc);
+    let mut bills = Vec::with_capacity(alloc, cells.len())?;
     let cells = cells.as_slice();
     for (_id, cell) in cells {
         add_bills(cell, &mut bills)?;

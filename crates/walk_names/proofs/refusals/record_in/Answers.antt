@@ -7,7 +7,7 @@ use Rattle.walk_names.proofs.refusals.record_in.Goals as goal
 pub returns-in-Some : goal.returns-in-Some
 returns-in-Some c =
     let rows = c.in-Some.cell.now in
-    c.get-in-Some.ensures
+    c.get.ensures
     ∙ record_of c.args.job.now.cells c.args.key.now rows
     (subst (λ (name : CellName). HeldCell c.args.job.now.cells name rows) c.requires.cell (held_cell c.args.job.now.wanted c.args.job.now.cells c.args.cell.now c.in-Some._id.now rows c.requires.job (sym c.in-Some.ensures)))
 

@@ -20,12 +20,12 @@ use record_versions::Cell;
 use std::alloc::{AllocError, Global};
 use std::sync::ledger::Ledger;
 
-/// The cell of a name that is there.
-pub fn cell_in<'a>(cells: &'a CellList, name: &CellName) -> &'a Cell
+/// The cell of a name that is there. It is looked for next to the last place, which becomes its own.
+pub fn cell_in<'a>(cells: &'a CellList, name: &CellName, last: &mut usize) -> &'a Cell
     requires { is_some (held cells.now name.now) ≡ true }
     ensures { (id : VersionId) × (held cells.now name.now ≡ Some (id, result.now)) }
 {
-    let Some((_id, cell)) = cells.get(name) else {
+    let Some((_id, cell)) = cells.get_near(name, last) else {
         unreachable!()
     };
     cell
@@ -48,6 +48,7 @@ fn working_days(
     named: Option<Name>,
     start: &Day,
     days: u16,
+    last: &mut usize,
 ) -> Result<Calendar, AllocError>
     requires job { IsJob job.now.wanted job.now.cells }
     requires start { start.now ≡ start_of (records job.now.cells) }
@@ -59,7 +60,7 @@ fn working_days(
     match named {
         None => Ok(Calendar::every(days)),
         Some(name) => {
-            let cell = cell_in(&job.cells, &CellName::Cal(name));
+            let cell = cell_in(&job.cells, &CellName::Cal(name), last);
             let working = calendar(alloc, cell, &name, start, days)?;
             Ok(working)
         }
@@ -67,10 +68,13 @@ fn working_days(
 }
 
 /// What the plan of a part comes to, from its cells in a job and the releases of its parents by name. It is one step of the counter.
+/// Its own cell is looked for next to a place, and its calendar's next to the last calendar's place, which becomes its own.
 pub fn net_part<L: Ledger>(
     alloc: Global,
     job: &Job,
     name: &Name,
+    mut place: usize,
+    calendar: &mut usize,
     releases: &[Release],
     steps: &mut Steps<L>,
 ) -> Result<Known, AllocError>
@@ -82,10 +86,11 @@ pub fn net_part<L: Ledger>(
         (λ known. step_from (records job.now.cells) name.now releases.now ≡ Some known) }
     ensures steps { OnOk result (steps.new ≡ steps.old + 1) }
 {
-    let plan = cell_in(&job.cells, &CellName::Plan);
+    let plan = cell_in(&job.cells, &CellName::Plan, &mut 0);
     let (start, days) = horizon(plan);
-    let part = cell_in(&job.cells, &CellName::Part(*name));
-    let working = working_days(alloc, job, calendar_named(part, name), &start, days)?;
+    let part = cell_in(&job.cells, &CellName::Part(*name), &mut place);
+    let named = calendar_named(part, name);
+    let working = working_days(alloc, job, named, &start, days, calendar)?;
     let known = step(alloc, part, name, &start, days, working, releases, steps)?;
     Ok(known)
 }

@@ -36,10 +36,19 @@ fn net_front<L: Ledger>(
     ensures steps { OnOk result (steps.new ≡ steps.old + length front.now) }
 {
     let mut results = Vec::with_capacity(alloc, front.len())?;
+    let mut calendar = 0;
     for place in front {
         let node = &nodes[*place];
         let releases = releases_at(alloc, known, node.ups.as_slice())?;
-        let value = net_part(alloc, job, &node.name, releases.as_slice(), steps)?;
+        let value = net_part(
+            alloc,
+            job,
+            &node.name,
+            node.cell,
+            &mut calendar,
+            releases.as_slice(),
+            steps,
+        )?;
         let shared = Arc::new(alloc, value)?;
         results.push((node.name, shared))?;
     }

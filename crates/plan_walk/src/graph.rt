@@ -24,24 +24,24 @@ use record_versions::{Cell, VersionId};
 use std::alloc::{AllocError, Global};
 use std::sync::Arc;
 
-/// The version of a cell that is there.
-pub fn version_of(cells: &CellList, name: &CellName) -> VersionId
+/// The version of a cell that is there. It is looked for next to the last place, which becomes its own.
+pub fn version_of(cells: &CellList, name: &CellName, last: &mut usize) -> VersionId
     requires { is_some (held cells.now name.now) ≡ true }
     ensures { result ≡ version_in cells.now name.now }
 {
-    let Some((id, _cell)) = cells.get(name) else {
+    let Some((id, _cell)) = cells.get_near(name, last) else {
         unreachable!()
     };
     *id
 }
 
 /// The version of the calendar that a part names, if it names one.
-fn calendar_version(cells: &CellList, named: Option<Name>) -> Option<VersionId>
+fn calendar_version(cells: &CellList, named: Option<Name>, last: &mut usize) -> Option<VersionId>
     requires { (k : Name) → named ≡ Some k → is_some (held cells.now (names.Cal k)) ≡ true }
     ensures { result ≡ option_map (λ k. version_in cells.now (names.Cal k)) named }
 {
     let name = named?;
-    Some(version_of(cells, &CellName::Cal(name)))
+    Some(version_of(cells, &CellName::Cal(name), last))
 }
 
 /// The places of the parents in the bills of a part's cell.
@@ -61,8 +61,16 @@ fn parents_at(alloc: Global, places: &Numbering, cell: &Cell) -> Result<Vec<usiz
     Ok(ups)
 }
 
-/// A part with the versions of its cells and the places of its parents.
-fn node_of(alloc: Global, job: &Job, places: &Numbering, name: &Name) -> Result<Node, AllocError>
+/// A part with the versions of its cells and the places of its parents. Its cell and its calendar's are looked for next to the last
+/// places, which become their own.
+fn node_of(
+    alloc: Global,
+    job: &Job,
+    places: &Numbering,
+    name: &Name,
+    last: &mut usize,
+    calendar: &mut usize,
+) -> Result<Node, AllocError>
     requires job { IsJob job.now.wanted job.now.cells }
     requires part { CanStep job.now.cells name.now }
     requires parents { AllByRecursion (Contains places.now)
@@ -70,13 +78,14 @@ fn node_of(alloc: Global, job: &Job, places: &Numbering, name: &Name) -> Result<
     ensures { IfOk result (IsNew job.now.cells places.now name.now) }
 {
     let cell_name = CellName::Part(*name);
-    let cell = cell_in(&job.cells, &cell_name);
+    let cell = cell_in(&job.cells, &cell_name, last);
     let named = calendar_named(cell, name);
     let ups = parents_at(alloc, places, cell)?;
     Ok(Node {
         name: *name,
-        part: version_of(&job.cells, &cell_name),
-        calendar: calendar_version(&job.cells, named),
+        part: version_of(&job.cells, &cell_name, last),
+        calendar: calendar_version(&job.cells, named, calendar),
+        cell: *last,
         ups,
         downs: Vec::new(alloc),
     })
@@ -112,8 +121,10 @@ pub fn nodes_of(
 {
     let mut nodes = Vec::with_capacity(alloc, names.len())?;
     let mut places = Numbering::new(alloc);
+    let mut last = 0;
+    let mut calendar = 0;
     for name in names {
-        let node = node_of(alloc, job, &places, name)?;
+        let node = node_of(alloc, job, &places, name, &mut last, &mut calendar)?;
         join(&mut nodes, node)?;
         places.number(*name)?;
     }

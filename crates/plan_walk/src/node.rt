@@ -14,12 +14,14 @@ use std::alloc::{AllocError, Global};
 use std::sync::Arc;
 use walk_rules::MemoKey;
 
-/// A part of a walk: the versions of its cells, and the places of its parents and of its components.
+/// A part of a walk: the versions of its cells, and the places of its parents and of its components among the parts.
 #[derive(Drop)]
 pub struct Node {
     pub name: Name,
     pub part: VersionId,
     pub calendar: Option<VersionId>,
+    /// Next to which place of the job's cells its own is looked for first.
+    pub cell: usize,
     pub ups: Vec<usize>,
     pub downs: Vec<usize>,
 }

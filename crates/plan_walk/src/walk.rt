@@ -79,7 +79,7 @@ impl Walk {
         let (nodes, places) = nodes_of(alloc, &job, names.as_slice())?;
         let known = nothing_known(alloc, nodes.len())?;
         let front = ready_places(alloc, nodes.as_slice(), known.as_slice())?;
-        let plan = version_of(&job.cells, &CellName::Plan);
+        let plan = version_of(&job.cells, &CellName::Plan, &mut 0);
         Ok(Walk {
             alloc,
             job,

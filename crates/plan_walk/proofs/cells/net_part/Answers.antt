@@ -31,7 +31,7 @@ working_days-requires-clause-days g c =
 
 pub working_days-requires-clause-there : goal.working_days-requires-clause-there
 working_days-requires-clause-there g c =
-    ap (has_calendar (records c.args.job.now.cells)) (c.calendar_named.ensures ∙ ap calendar_of (record_of c.args.job.now.cells (keys.Part c.args.name.now) c.cell_in-part.result.now (held_cell c.args.job.now.wanted c.args.job.now.cells (names.Part c.args.name.now) c.cell_in-part.ensures.0 c.cell_in-part.result.now c.requires.job c.cell_in-part.ensures.1))) ∙ c.requires.part.calendar
+    ap (has_calendar (records c.args.job.now.cells)) (c.calendar_named-named.ensures ∙ ap calendar_of (record_of c.args.job.now.cells (keys.Part c.args.name.now) c.cell_in-part.result.now (held_cell c.args.job.now.wanted c.args.job.now.cells (names.Part c.args.name.now) c.cell_in-part.ensures.0 c.cell_in-part.result.now c.requires.job c.cell_in-part.ensures.1))) ∙ c.requires.part.calendar
 
 pub step-requires-clause-sound : goal.step-requires-clause-sound
 step-requires-clause-sound g c =
@@ -47,7 +47,7 @@ step-requires-clause-there g c =
 
 pub step-requires-clause-calendar : goal.step-requires-clause-calendar
 step-requires-clause-calendar g c =
-    ap length c.in_ok-working.ensures ∙ works_length (records c.args.job.now.cells) c.calendar_named.result ∙ sym (ap (λ (p : ℕ × ℕ). p.1) (c.horizon-start.ensures.value ∙ ap horizon_of (record_of c.args.job.now.cells keys.Plan c.cell_in-plan.result.now (held_cell c.args.job.now.wanted c.args.job.now.cells names.Plan c.cell_in-plan.ensures.0 c.cell_in-plan.result.now c.requires.job c.cell_in-plan.ensures.1))))
+    ap length c.in_ok-working.ensures ∙ works_length (records c.args.job.now.cells) c.calendar_named-named.result ∙ sym (ap (λ (p : ℕ × ℕ). p.1) (c.horizon-start.ensures.value ∙ ap horizon_of (record_of c.args.job.now.cells keys.Plan c.cell_in-plan.result.now (held_cell c.args.job.now.wanted c.args.job.now.cells names.Plan c.cell_in-plan.ensures.0 c.cell_in-plan.result.now c.requires.job c.cell_in-plan.ensures.1))))
 
 pub step-requires-clause-lists : goal.step-requires-clause-lists
 step-requires-clause-lists g c =
@@ -62,7 +62,7 @@ step-requires-clause-each g c =
 pub returns-clause-known : goal.returns-clause-known
 returns-clause-known g c =
     let held = (held_cell c.args.job.now.wanted c.args.job.now.cells (names.Part c.args.name.now) c.cell_in-part.ensures.0 c.cell_in-part.result.now c.requires.job c.cell_in-part.ensures.1) in
-    let works_are = c.in_ok-working.ensures ∙ ap (works (records c.args.job.now.cells)) (c.calendar_named.ensures ∙ ap calendar_of (record_of c.args.job.now.cells (keys.Part c.args.name.now) c.cell_in-part.result.now (held_cell c.args.job.now.wanted c.args.job.now.cells (names.Part c.args.name.now) c.cell_in-part.ensures.0 c.cell_in-part.result.now c.requires.job c.cell_in-part.ensures.1))) in
+    let works_are = c.in_ok-working.ensures ∙ ap (works (records c.args.job.now.cells)) (c.calendar_named-named.ensures ∙ ap calendar_of (record_of c.args.job.now.cells (keys.Part c.args.name.now) c.cell_in-part.result.now (held_cell c.args.job.now.wanted c.args.job.now.cells (names.Part c.args.name.now) c.cell_in-part.ensures.0 c.cell_in-part.result.now c.requires.job c.cell_in-part.ensures.1))) in
     let start = (ap (λ (p : ℕ × ℕ). p.0) (c.horizon-start.ensures.value ∙ ap horizon_of (record_of c.args.job.now.cells keys.Plan c.cell_in-plan.result.now (held_cell c.args.job.now.wanted c.args.job.now.cells names.Plan c.cell_in-plan.ensures.0 c.cell_in-plan.result.now c.requires.job c.cell_in-plan.ensures.1)))) in
     let days = (ap (λ (p : ℕ × ℕ). p.1) (c.horizon-start.ensures.value ∙ ap horizon_of (record_of c.args.job.now.cells keys.Plan c.cell_in-plan.result.now (held_cell c.args.job.now.wanted c.args.job.now.cells names.Plan c.cell_in-plan.ensures.0 c.cell_in-plan.result.now c.requires.job c.cell_in-plan.ensures.1)))) in
     sym (step_from_cell (records c.args.job.now.cells) c.args.name.now c.args.releases.now c.requires.part.calendar)

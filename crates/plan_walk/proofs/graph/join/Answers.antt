@@ -26,7 +26,7 @@ loop-up-preserved c =
     let counted = c.len-place.ensures in
     let place : c.len-place.result ≡ length nodes = omega arith in
     let pushed : c.push.new.self.items ≡ parent.downs.items ++ length nodes ∷ [] = c.in_ok-push.ensures.items ∙ ap (λ k. parent.downs.items ++ k ∷ []) place in
-    let x : Node = record { name = parent.name; part = parent.part; calendar = parent.calendar; ups = parent.ups; downs = c.push.new.self } in
+    let x : Node = record { name = parent.name; part = parent.part; calendar = parent.calendar; cell = parent.cell; ups = parent.ups; downs = c.push.new.self } in
     subst (λ k. Linked (length nodes) (take k ups) nodes (set now q x)) (sym (add-one t)) (link_more (length nodes) ups t q nodes now at c.loop-up.invariant parent x is refl pushed)
 
 pub returns : goal.returns

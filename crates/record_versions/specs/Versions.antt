@@ -1,12 +1,11 @@
 -- Ids of cells, and the cells that they are the ids of.
-use Rattle.std.specs.Prelude.{Bool, true, false, List, [], ◌∷◌, Option, filter}
+use Rattle.std.specs.Prelude.{Bool, List, Option, filter}
 use Rattle.std.specs.List.{list_any}
 use Rattle.std.specs.Ordering.{nat_cmp, ordering_then, is_eq}
 use Rattle.std.specs.declared.cmp.Ordering.{Ordering}
 use Rattle.std.specs.FinMap.{is_sorted}
 use Rattle.std.specs.Map.{lookup, remove_entry}
 use Rattle.std.specs.BTreeMap.{is_at, insert_entry}
-use Rattle.std.specs.BTreeSet.{insert_key}
 use Rattle.plan_schema.specs.declared.change.CellName.{CellName}
 use Rattle.plan_schema.specs.Cell.{cell_cmp}
 use Rattle.plan_schema.specs.Contents.{Contents}
@@ -54,13 +53,9 @@ with_cell cells id rows = insert_entry id_cmp cells id rows
 abbrev pub without_cell : CellList → VersionId → CellList
 without_cell cells id = remove_entry (is_at (id_cmp id)) cells
 
--- an id is among those of a set, which are in their order
+-- an id is among those of a list
 abbrev pub has_id : List VersionId → VersionId → Bool
 has_id ids id = list_any (id_eq id) ids
-
--- the set with an id among them
-abbrev pub with_member : List VersionId → VersionId → List VersionId
-with_member ids id = insert_key id_cmp ids id
 
 -- the cells whose ids are live
 abbrev pub only_live : List VersionId → CellList → CellList

@@ -1,59 +1,63 @@
 //! Sets of ids, as of those that are live.
-ghost use Rattle.std.specs.Prelude.{◌≡◌, [], OnOk, OnErr};
-ghost use Rattle.std.specs.BTreeSet.{insert_key};
-ghost use Rattle.record_versions.specs.Versions.{has_id, with_member};
+ghost use Rattle.std.specs.Prelude.{◌≡◌};
+ghost use Rattle.record_versions.specs.declared.version.VersionId.{VersionId};
+ghost use Rattle.std.specs.List.{list_any};
+ghost use Rattle.std.specs.List.Sorted.{IsSorted, IsPermutation};
+ghost use Rattle.std.specs.Ordering.{is_eq};
+ghost use Rattle.record_versions.specs.Versions.{has_id};
 
 use crate::version::VersionId;
-use std::alloc::{AllocError, Global};
-use std::collections::BTreeSet;
 use std::marker::Model;
 
-/// A set of ids. Contracts see its members as a list in their order.
+/// A set of ids. Contracts see a list of its members in their order, in which one may stand more than once.
 #[derive(Drop)]
 pub struct IdSet {
-    ids: BTreeSet<VersionId>,
+    ids: Vec<VersionId>,
 }
 
 impl Model for IdSet {
     ghost use Rattle.std.specs.Prelude.{List};
+    ghost use Rattle.std.specs.List.Sorted.{IsSorted};
     ghost use Rattle.record_versions.specs.declared.version.VersionId.{VersionId};
+    ghost use Rattle.record_versions.specs.Versions.{id_cmp};
 
     ghost Value = { List VersionId };
 
-    ghost view = { λ set. set.ids.keys };
+    ghost view = { λ set. set.ids.items };
+
+    ghost invariant = { λ set. IsSorted id_cmp set.ids.items };
 }
 
 impl IdSet {
-    /// No ids.
-    pub fn new(alloc: Global) -> IdSet
-        ensures { result ≡ [] }
+    /// The ids of a list, in which one may stand more than once. Takes no memory.
+    pub fn of(ids: Vec<VersionId>) -> IdSet
+        ensures { (id : VersionId) → has_id result id ≡ has_id ids.items id }
     {
-        IdSet {
-            ids: BTreeSet::new(alloc),
-        }
-    }
-
-    /// Puts an id among them, where it may be already.
-    pub fn put(&mut self, id: VersionId) -> Result<(), AllocError>
-        ensures ok { OnOk result (self.new ≡ with_member self.old id) }
-        ensures err { OnErr result (self.new ≡ self.old) }
-    {
-        insert_in(&mut self.ids, id)
+        let mut ids = ids;
+        sort(&mut ids);
+        IdSet { ids }
     }
 
     /// Whether an id is among them.
     pub fn has(&self, id: &VersionId) -> bool
         ensures { result ≡ has_id self.now id.now }
     {
-        self.ids.contains(id)
+        is_among(&self.ids, id)
     }
 }
 
-// The key put among those of a set, for keys of any type.
-fn insert_in<K: Ord + Copy>(set: &mut BTreeSet<K>, key: K) -> Result<(), AllocError>
-    ensures ok { OnOk result (set.new.keys ≡ insert_key K.cmp set.old.keys key) }
-    ensures err { OnErr result (set.new.keys ≡ set.old.keys) }
+// Puts keys of any type in their order.
+fn sort<K: Ord>(keys: &mut Vec<K>)
+    ensures same { IsPermutation keys.old.items keys.new.items }
+    ensures sorted { IsSorted K.cmp keys.new.items }
 {
-    set.insert(key)?;
-    Ok(())
+    keys.sort_unstable();
+}
+
+// Whether a key is among keys in their order.
+fn is_among<K: Ord>(keys: &[K], key: &K) -> bool
+    requires { IsSorted K.cmp keys.now }
+    ensures { result ≡ list_any (λ other. is_eq (K.cmp key.now other)) keys.now }
+{
+    keys.binary_search(key).is_ok()
 }

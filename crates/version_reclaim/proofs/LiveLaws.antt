@@ -106,6 +106,10 @@ all_collected forest place set whole collected = record { all = all; alone = col
         let within : found.0 < length forest.world = slice_get_within forest.world found.0 (live.scenario, found.1.0) found.1.1 in
         collected.all found.0 live.scenario found.1.0 (omega arith) found.1.1 id live.of_it
 
+-- a set that has the ids of a list
+pub live_as : (forest : Grown) (list set : List VersionId) → ((id : VersionId) → has_id set id ≡ has_id list id) → AreLive forest list → AreLive forest set
+live_as forest list set same live = record { all = λ id is_live. same id ∙ live.all id is_live; alone = λ id h. live.alone id (sym (same id) ∙ h) }
+
 -- where a scenario that isn't there has no ids, a live id is one of a scenario that is there
 pub live_there : (forest : Grown) → ((s : Name) → scenario_at forest.world s ≡ None → ids_in forest s ≡ no_ids) → (id : VersionId) → IsLive (ids_in forest) id → IsLiveIn forest id
 live_there forest gone id live = record { scenario = live.scenario; there = by_cases (scenario_at forest.world live.scenario) refl; of_it = record { cell = live.cell; of_base = live.of_base; has = live.has } }

@@ -1,15 +1,15 @@
--- Ids put among those of a set, scenario by scenario.
-use Rattle.std.specs.Prelude.{◌≡◌, ◌⊎◌, true, List, fold}
+-- Ids put at the end of a list, scenario by scenario.
+use Rattle.std.specs.Prelude.{◌≡◌, ◌⊎◌, true, List, [], ◌∷◌, ◌++◌, fold}
 use Rattle.record_versions.specs.declared.version.VersionId.{VersionId}
-use Rattle.record_versions.specs.Versions.{IdList, has_id, with_member}
+use Rattle.record_versions.specs.Versions.{IdList, has_id}
 use Rattle.version_rules.specs.Ids.{ScenarioIds}
 use Rattle.version_reclaim.specs.Live.{IsIdOf}
 
--- the set with the ids of cells among them
+-- the list with the ids of cells after its own
 abbrev pub with_ids_of : List VersionId → IdList → List VersionId
-with_ids_of set ids = fold (λ s entry. with_member s entry.1) set ids
+with_ids_of list ids = fold (λ l entry. l ++ entry.1 ∷ []) list ids
 
--- a set after the ids of a scenario were put among its own
+-- a list after the ids of a scenario were put in it
 pub record IsWithScenario (ids : ScenarioIds) (old new : List VersionId) : Type 0 where
   pub kept : (id : VersionId) → has_id old id ≡ true → has_id new id ≡ true
   pub put : (id : VersionId) → IsIdOf ids id → has_id new id ≡ true

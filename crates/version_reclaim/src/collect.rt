@@ -7,7 +7,7 @@ ghost use Rattle.version_reclaim.specs.Live.{AreLive};
 ghost use Rattle.version_reclaim.specs.Collected.{with_ids_of, IsWithScenario};
 
 use plan_schema::Name;
-use record_versions::{IdSet, Ids};
+use record_versions::{IdSet, Ids, VersionId};
 use scenario_merge::Forest;
 use std::alloc::{AllocError, Global};
 
@@ -15,20 +15,21 @@ use std::alloc::{AllocError, Global};
 pub fn live(alloc: Global, forest: &Forest) -> Result<IdSet, AllocError>
     ensures { IfOk result (λ live. AreLive forest.now live) }
 {
-    let mut live = IdSet::new(alloc);
+    let mut live = Vec::new(alloc);
     for place in 0..forest.len() {
         let Some(row) = forest.at(place) else {
             unreachable!()
         };
         put_scenario(&mut live, forest, &row.name)?;
     }
-    Ok(live)
+    Ok(IdSet::of(live))
 }
 
-// Puts the ids of the base and of the contents of a scenario that is there among some ids.
-fn put_scenario(live: &mut IdSet, forest: &Forest, name: &Name) -> Result<(), AllocError>
+// Puts the ids of the base and of the contents of a scenario that is there at the end of some ids.
+fn put_scenario(live: &mut Vec<VersionId>, forest: &Forest, name: &Name) -> Result<(), AllocError>
     requires there { IsSome (scenario_at forest.now.world name.now) }
-    ensures { OnOk result (IsWithScenario (ids_in forest.now name.now) live.old live.new) }
+    ensures { OnOk result (IsWithScenario (ids_in forest.now name.now)
+        live.old.items live.new.items) }
 {
     let Some(base) = forest.base_ids(name) else {
         unreachable!()
@@ -41,15 +42,14 @@ fn put_scenario(live: &mut IdSet, forest: &Forest, name: &Name) -> Result<(), Al
     Ok(())
 }
 
-// Puts ids among others.
-fn put_ids(live: &mut IdSet, ids: &Ids) -> Result<(), AllocError>
-    ensures ok { OnOk result (live.new ≡ with_ids_of live.old ids.now) }
+// Puts ids at the end of others.
+fn put_ids(live: &mut Vec<VersionId>, ids: &Ids) -> Result<(), AllocError>
+    ensures ok { OnOk result (live.new.items ≡ with_ids_of live.old.items ids.now) }
     ensures ordered { are_ordered_ids ids.now ≡ true }
 {
-    // Its contract tells that the ids stand in their order.
-    let _count = ids.len();
+    live.reserve(ids.len())?;
     for (_cell, id) in ids.iter() {
-        live.put(**id)?;
+        live.push(**id)?;
     }
     Ok(())
 }

@@ -1,5 +1,5 @@
 use Rattle.std.proofs.Common.{arith}
-use Rattle.version_reclaim.proofs.LiveLaws.{row_of, there_at, one_collected, all_collected}
+use Rattle.version_reclaim.proofs.LiveLaws.{row_of, there_at, one_collected, all_collected, live_as}
 use Rattle.version_reclaim.proofs.collect.live.Goals as goal
 
 pub put_scenario-requires : goal.put_scenario-requires
@@ -10,7 +10,7 @@ put_scenario-requires c =
 pub loop-place-preserved : goal.loop-place-preserved
 loop-place-preserved c =
     let row = row_of c.args.forest.now.world c.loop-place.place c.in-Some.row c.in-Some.ensures in
-    one_collected c.args.forest.now c.loop-place.place c.loop-place.live c.put_scenario.new.live c.in-Some.row.name row.0 row.1 c.loop-place.invariant c.in_ok-put_scenario.ensures
+    one_collected c.args.forest.now c.loop-place.place c.loop-place.live.items c.put_scenario.new.live.items c.in-Some.row.name row.0 row.1 c.loop-place.invariant c.in_ok-put_scenario.ensures
 
 pub returns : goal.returns
-returns c = all_collected c.args.forest.now c.loop-place.place c.loop-place.live (omega arith) c.loop-place.invariant
+returns c = live_as c.args.forest.now c.loop-place.live.items c.of.result c.of.ensures (all_collected c.args.forest.now c.loop-place.place c.loop-place.live.items (omega arith) c.loop-place.invariant)

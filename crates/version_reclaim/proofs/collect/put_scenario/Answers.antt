@@ -9,6 +9,6 @@ pub returns : goal.returns
 returns c =
     let base = c.in-Some.base.now in
     let contents = c.in-Some-ids.contents.now in
-    let new : c.put_ids-2.new.live ≡ with_ids_of (with_ids_of c.args.live.now base) contents = c.in_ok-put_ids-2.ensures.ok ∙ ap (λ (set : List VersionId). with_ids_of set contents) c.in_ok-put_ids.ensures.ok in
-    subst (λ (set : List VersionId). IsWithScenario (ids_in c.args.forest.now c.args.name.now) c.args.live.now set) (sym new)
-    (both_put (ids_in c.args.forest.now c.args.name.now) base contents c.in-Some.ensures.ids c.in-Some-ids.ensures.ids c.args.live.now c.in_ok-put_ids.ensures.ordered c.in_ok-put_ids-2.ensures.ordered)
+    let new : c.put_ids-2.new.live.items ≡ with_ids_of (with_ids_of c.args.live.now.items base) contents = c.in_ok-put_ids-2.ensures.ok ∙ ap (λ (set : List VersionId). with_ids_of set contents) c.in_ok-put_ids.ensures.ok in
+    subst (λ (set : List VersionId). IsWithScenario (ids_in c.args.forest.now c.args.name.now) c.args.live.now.items set) (sym new)
+    (both_put (ids_in c.args.forest.now c.args.name.now) base contents c.in-Some.ensures.ids c.in-Some-ids.ensures.ids c.args.live.now.items c.in_ok-put_ids.ensures.ordered c.in_ok-put_ids-2.ensures.ordered)

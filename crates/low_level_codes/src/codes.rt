@@ -4,11 +4,12 @@ ghost use Rattle.std.specs.Prelude.{MatchOption, Contains, map};
 ghost use Rattle.plan_schema.specs.declared.name.Name.{Name};
 ghost use Rattle.planning_rules.specs.Refused.{least_name, is_cyclic};
 ghost use Rattle.low_level_codes.specs.Graphs.{level_at, shown, AreWithin};
-ghost use Rattle.low_level_codes.specs.Levels.{as_records, are_ascending, AreClosed, AreLevels, are_by_level};
+ghost use Rattle.low_level_codes.specs.Levels.{are_ascending, AreClosed, AreLevels, IsClosure};
 ghost use Rattle.low_level_codes.specs.Owns.{NoneOwn, FirstOwn};
 ghost use Rattle.low_level_codes.specs.Faults.{WhereCyclic};
-ghost use Rattle.low_level_codes.specs.Numbers.{StandAt, HoldsLevels, LacksLevel};
+ghost use Rattle.low_level_codes.specs.Numbers.{IsGraph, HoldsLevels, LacksLevel};
 
+use crate::ancestry::reached_names;
 use crate::fault::LevelFault;
 use crate::graph::Graph;
 use crate::placing::place;
@@ -88,19 +89,23 @@ fn turned(
     Ok(levels)
 }
 
-/// The low-level codes of names that hold the parents of each of them: pairs of a name and its level, by level and then by name. A
-/// bill is a pair of a component and a parent of it. Where some name is its own ancestor, none gets a level: the fault says which.
-pub fn levels(
+/// The low-level codes of names that hold the parents of each of them by a graph: pairs of a name and its level, by level and then by
+/// name. Where some name is its own ancestor, none gets a level: the fault says which.
+fn levels_in(
     alloc: Global,
-    bills: &[(Name, Name)],
+    graph: &mut Graph,
     names: &[Name],
 ) -> Result<Vec<(Name, usize)>, LevelFault>
     requires ascending { are_ascending names.now ≡ true }
-    requires closed { AreClosed bills.now names.now }
-    ensures levels { IfOk result (λ levels. AreLevels bills.now names.now levels.items) }
-    ensures cyclic { IfErr result (WhereCyclic bills.now names.now) }
+    requires graph { (bills : List (Name × Name)) × IsGraph bills graph.old.names
+        (shown graph.old.ups.items) (shown graph.old.downs.items) × AreClosed bills names.now }
+    ensures levels { IfOk result (λ levels. (bills : List (Name × Name))
+        → IsGraph bills graph.old.names (shown graph.old.ups.items) (shown graph.old.downs.items)
+        → AreLevels bills names.now levels.items) }
+    ensures cyclic { IfErr result (λ fault. (bills : List (Name × Name))
+        → IsGraph bills graph.old.names (shown graph.old.ups.items) (shown graph.old.downs.items)
+        → WhereCyclic bills names.now fault) }
 {
-    let mut graph = Graph::of(alloc, bills)?;
     let places = graph.places_of(alloc, names)?;
     let ups = graph.ups.as_slice();
     let downs = graph.downs.as_slice();
@@ -116,4 +121,38 @@ pub fn levels(
     let own = first_own(alloc, ups, placed, heights, places, names)?;
     let Some(name) = own else { unreachable!() };
     Err(LevelFault::Cyclic(name))
+}
+
+/// The low-level codes of names that hold the parents of each of them: pairs of a name and its level, by level and then by name. A
+/// bill is a pair of a component and a parent of it. Where some name is its own ancestor, none gets a level: the fault says which.
+pub fn levels(
+    alloc: Global,
+    bills: &[(Name, Name)],
+    names: &[Name],
+) -> Result<Vec<(Name, usize)>, LevelFault>
+    requires ascending { are_ascending names.now ≡ true }
+    requires closed { AreClosed bills.now names.now }
+    ensures levels { IfOk result (λ levels. AreLevels bills.now names.now levels.items) }
+    ensures cyclic { IfErr result (WhereCyclic bills.now names.now) }
+{
+    let mut graph = Graph::of(alloc, bills)?;
+    levels_in(alloc, &mut graph, names)
+}
+
+/// The names and all their ancestors, in ascending order, each once, and their low-level codes: what `closure` and `levels` come to,
+/// from one graph.
+pub fn closure_and_levels(
+    alloc: Global,
+    bills: &[(Name, Name)],
+    from: &[Name],
+) -> Result<(Vec<Name>, Result<Vec<(Name, usize)>, LevelFault>), AllocError>
+    ensures members { IfOk result (λ r. IsClosure bills.now from.now r.0.items) }
+    ensures levels { IfOk result (λ r. IfOk r.1
+        (λ levels. AreLevels bills.now r.0.items levels.items)) }
+    ensures cyclic { IfOk result (λ r. IfErr r.1 (WhereCyclic bills.now r.0.items)) }
+{
+    let mut graph = Graph::of(alloc, bills)?;
+    let closed = reached_names(alloc, &mut graph, from)?;
+    let levels = levels_in(alloc, &mut graph, closed.as_slice());
+    Ok((closed, levels))
 }

@@ -10,6 +10,6 @@ mod placing;
 mod reach;
 
 pub use ancestry::closure;
-pub use codes::levels;
+pub use codes::{closure_and_levels, levels};
 pub use fault::LevelFault;
 pub use numbering::Numbering;

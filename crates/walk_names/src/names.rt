@@ -1,8 +1,5 @@
 //! The names of a walk.
-ghost use Rattle.std.specs.Prelude.{◌≡◌, ℕ, List, true, map, IfOk, IfErr};
-ghost use Rattle.plan_schema.specs.declared.name.Name.{Name};
-ghost use Rattle.low_level_codes.specs.Levels.{are_ascending, AreClosed, AreLevels};
-ghost use Rattle.low_level_codes.specs.Faults.{WhereCyclic};
+ghost use Rattle.std.specs.Prelude.{◌≡◌, map, IfOk, IfErr};
 ghost use Rattle.walk_rules.specs.Cells.{records};
 ghost use Rattle.plan_jobs.specs.Jobs.{IsJob, asked_by};
 ghost use Rattle.walk_names.specs.Names.{AreWalkNames, IsTrouble, fault_trouble};
@@ -11,7 +8,7 @@ use crate::asked::asked_names;
 use crate::bills::all_bills;
 use crate::refusals::{least_missing, least_without_calendar};
 use crate::trouble::Trouble;
-use low_level_codes::{LevelFault, closure, levels};
+use low_level_codes::{LevelFault, closure_and_levels};
 use plan_jobs::Job;
 use plan_schema::{Name, Refusal};
 use std::alloc::{AllocError, Global};
@@ -21,19 +18,6 @@ fn without_levels(alloc: Global, levels: &[(Name, usize)]) -> Result<Vec<Name>, 
     ensures { IfOk result (λ names. names.items ≡ map (λ pair. pair.0) levels.now) }
 {
     levels.iter().map(|pair| pair.0).collect(alloc)
-}
-
-/// Names that hold their parents, by level and then by name.
-fn by_level(alloc: Global, bills: &[(Name, Name)], names: &[Name]) -> Result<Vec<Name>, LevelFault>
-    requires ascending { are_ascending names.now ≡ true }
-    requires closed { AreClosed bills.now names.now }
-    ensures names { IfOk result (λ found. (levels : List (Name × ℕ))
-        × AreLevels bills.now names.now levels × (found.items ≡ map (λ pair. pair.0) levels)) }
-    ensures cyclic { IfErr result (WhereCyclic bills.now names.now) }
-{
-    let levels = levels(alloc, bills, names)?;
-    let found = without_levels(alloc, levels.as_slice())?;
-    Ok(found)
 }
 
 /// The trouble that names without levels make.
@@ -59,15 +43,15 @@ pub fn names_by_level(alloc: Global, job: &Job) -> Result<Vec<Name>, Trouble>
         return Err(Trouble::Refused(job.point, Refusal::NoPart(name)));
     }
     let bills = all_bills(alloc, &job.cells)?;
-    let closed = closure(alloc, bills.as_slice(), asked.as_slice())?;
+    let (closed, levels) = closure_and_levels(alloc, bills.as_slice(), asked.as_slice())?;
     if let Some(name) = least_missing(job, closed.as_slice()) {
         return Err(Trouble::Refused(job.point, Refusal::MissingPart(name)));
     }
     if let Some(name) = least_without_calendar(job, closed.as_slice()) {
         return Err(Trouble::Refused(job.point, Refusal::MissingCalendar(name)));
     }
-    match by_level(alloc, bills.as_slice(), closed.as_slice()) {
-        Ok(names) => Ok(names),
+    match levels {
+        Ok(levels) => Ok(without_levels(alloc, levels.as_slice())?),
         Err(fault) => Err(trouble_of(job.point, fault)),
     }
 }

@@ -1,5 +1,5 @@
 use Rattle.std.proofs.Common.{◌≡◌, ◌∙◌, ap, sym, subst, refl}
-use Rattle.std.specs.Prelude.{Some, None, filter_map}
+use Rattle.std.specs.Prelude.{Some, None, filter_map, map}
 use Rattle.planning_rules.specs.Refused.{least_name, in_reach}
 use Rattle.low_level_codes.specs.Levels.{IsClosure, AreLevels}
 use Rattle.low_level_codes.specs.Faults.{WhereCyclic}
@@ -60,10 +60,8 @@ returns-in-Ok-clause-names c =
     let is : IsClosure bills asked closed = subst (λ bs. IsClosure bs asked closed) bills_are (subst (λ from. IsClosure c.as_slice-2.result.now from closed) from_is c.in_ok-closed.ensures.members) in
     let second : least_name (no_part contents asked) (in_reach contents asked) ≡ None = sym (reach_least contents asked closed is (no_part contents asked)) ∙ ap (least_name (no_part contents asked)) (sym c.as_slice-4.ensures.value) ∙ sym c.in_default-least_missing.ensures in
     let third : least_name (no_calendar contents asked) (in_reach contents asked) ≡ None = sym (reach_least contents asked closed is (no_calendar contents asked)) ∙ ap (least_name (no_calendar contents asked)) (sym c.as_slice-5.ensures.value) ∙ sym c.in_default-least_without_calendar.ensures in
-    let again : c.as_slice-6.result.now ≡ bills = c.as_slice-6.ensures.value ∙ c.in_ok-bills.ensures in
-    let found = c.in-Ok.ensures.names in
-    let levels : AreLevels bills closed found.0 = subst (λ ns. AreLevels bills ns found.0) c.as_slice-7.ensures.value (subst (λ bs. AreLevels bs c.as_slice-7.result.now found.0) again found.1) in
-    subst (AreWalkNames contents asked) (sym found.2) (walk_names contents asked closed is found.0 levels first second third)
+    let levels : AreLevels bills closed c.in-Ok.levels.items = subst (λ bs. AreLevels bs closed c.in-Ok.levels.items) bills_are (rw c.in-Ok.is at c.in_ok-closed.ensures.levels) in
+    subst (AreWalkNames contents asked) (sym (c.in_ok-without_levels-in-Ok.ensures ∙ ap (map (λ pair. pair.0)) c.as_slice-in-Ok.ensures.value)) (walk_names contents asked closed is c.in-Ok.levels.items levels first second third)
 
 pub returns-clause-refused : goal.returns-clause-refused
 returns-clause-refused c =
@@ -78,6 +76,5 @@ returns-clause-refused c =
     let is : IsClosure bills asked closed = subst (λ bs. IsClosure bs asked closed) bills_are (subst (λ from. IsClosure c.as_slice-2.result.now from closed) from_is c.in_ok-closed.ensures.members) in
     let second : least_name (no_part contents asked) (in_reach contents asked) ≡ None = sym (reach_least contents asked closed is (no_part contents asked)) ∙ ap (least_name (no_part contents asked)) (sym c.as_slice-4.ensures.value) ∙ sym c.in_default-least_missing.ensures in
     let third : least_name (no_calendar contents asked) (in_reach contents asked) ≡ None = sym (reach_least contents asked closed is (no_calendar contents asked)) ∙ ap (least_name (no_calendar contents asked)) (sym c.as_slice-5.ensures.value) ∙ sym c.in_default-least_without_calendar.ensures in
-    let again : c.as_slice-6.result.now ≡ bills = c.as_slice-6.ensures.value ∙ c.in_ok-bills.ensures in
-    let cyclic : WhereCyclic bills closed c.in-Err.fault = subst (λ ns. WhereCyclic bills ns c.in-Err.fault) c.as_slice-7.ensures.value (subst (λ bs. WhereCyclic bs c.as_slice-7.result.now c.in-Err.fault) again c.in-Err.ensures.cyclic) in
+    let cyclic : WhereCyclic bills closed c.in-Err.fault = subst (λ bs. WhereCyclic bs closed c.in-Err.fault) bills_are (rw c.in-Err.is at c.in_ok-closed.ensures.cyclic) in
     subst (λ (t : Trouble). IsTrouble contents asked c.args.job.now.point t) (sym c.trouble_of.ensures) (fault_refused contents asked closed is c.args.job.now.point c.in-Err.fault first second third cyclic)

@@ -1,4 +1,4 @@
-use Rattle.std.proofs.Common.{◌≡◌, ap, sym, ◌∙◌, subst, true}
+use Rattle.std.proofs.Common.{ap, sym, ◌∙◌, subst}
 use Rattle.low_level_codes.specs.Levels.{are_ascending, AreClosed, AreLevels}
 use Rattle.low_level_codes.specs.Faults.{WhereCyclic}
 use Rattle.low_level_codes.proofs.Ancestors.{closure_closed}

@@ -1,4 +1,4 @@
-use Rattle.std.proofs.Common.{◌≡◌, ◌∙◌, sym, ap, true}
+use Rattle.std.proofs.Common.{◌∙◌, sym, ap}
 use Rattle.std.specs.Ordering.{is_eq}
 use Rattle.plan_jobs.proofs.Searched.{found_at}
 use Rattle.plan_jobs.proofs.cells.is_at.Goals as goal

@@ -1,4 +1,4 @@
-use Rattle.std.proofs.Common.{rules, ◌≡◌, ◌∙◌, ap, sym, subst, true}
+use Rattle.std.proofs.Common.{rules, ◌≡◌, subst, true}
 use Rattle.std.specs.Prelude.{nat_eq, MatchOption, Some, slice_get}
 use Rattle.std.specs.Cmp.Lexicographic.{pointwise}
 use Rattle.plan_schema.specs.declared.name.Name.{Name}

@@ -93,8 +93,10 @@ fn weeks(start: u32, days: u16, week: &[bool; 7]) -> [bool; 400]
         → slice_index_or result t false ≡ week_works week.now [] (start + t) }
 {
     let mut works = [false; 400];
+    let mut weekday = (start as usize + 5) % 7;
     for day in 0..days as usize {
-        works[day] = week[(start as usize + day + 5) % 7];
+        works[day] = week[weekday];
+        weekday = if weekday < 6 { weekday + 1 } else { 0 };
     }
     works
 }

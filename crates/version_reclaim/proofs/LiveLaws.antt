@@ -20,25 +20,26 @@ use Rattle.scenario_merge.specs.declared.forest.TreeRow.{TreeRow}
 use Rattle.scenario_merge.specs.Grown.{Grown, ids_in}
 use Rattle.scenario_merge.specs.Tree.{tree_row}
 use Rattle.version_reclaim.specs.Live.{IsIdOf, IsLiveIn, AreLive}
-use Rattle.version_reclaim.specs.Collected.{with_ids_of, IsWithScenario}
-use Rattle.version_reclaim.proofs.SetLaws.{all_keep, all_put, all_alone}
+use Rattle.version_reclaim.specs.Collected.{IsWithIds, IsWithScenario}
+use Rattle.version_reclaim.proofs.SetLaws.{listed_at, at_listed}
 
 -- the ids of a base and of contents, put one after the other
-module _ (ids : ScenarioIds) (base contents : IdList) (base_is : (cell : CellName) → id_at base cell ≡ ids.base cell) (contents_are : (cell : CellName) → id_at contents cell ≡ ids.contents cell) where
-  side_put : (old : List VersionId) (of_base : Bool) (cell : CellName) (id : VersionId) → side_ids of_base ids cell ≡ Some id → has_id (with_ids_of (with_ids_of old base) contents) id ≡ true
-  side_put old true cell id h = all_keep contents (with_ids_of old base) id (all_put base old cell id (base_is cell ∙ h))
-  side_put old false cell id h = all_put contents (with_ids_of old base) cell id (contents_are cell ∙ h)
+module _ (ids : ScenarioIds) (base contents : IdList) (base_is : (cell : CellName) → id_at base cell ≡ ids.base cell) (contents_are : (cell : CellName) → id_at contents cell ≡ ids.contents cell)
+    (old mid new : List VersionId) (first : IsWithIds base old mid) (then : IsWithIds contents mid new) where
+  side_put : (of_base : Bool) (cell : CellName) (id : VersionId) → side_ids of_base ids cell ≡ Some id → has_id new id ≡ true
+  side_put true cell id h = then.kept id (first.put id (listed_at base cell id (base_is cell ∙ h)))
+  side_put false cell id h = then.put id (listed_at contents cell id (contents_are cell ∙ h))
 
-  pub both_put : (old : List VersionId) → are_ordered_ids base ≡ true → are_ordered_ids contents ≡ true → IsWithScenario ids old (with_ids_of (with_ids_of old base) contents)
-  both_put old base_ordered contents_ordered = record {
-    kept = λ id h. all_keep contents (with_ids_of old base) id (all_keep base old id h);
-    put = λ id of_it. side_put old of_it.of_base of_it.cell id of_it.has;
-    alone = λ id h. elim (all_alone contents (with_ids_of old base) id contents_ordered h) [
-      | inl before ↦ elim (all_alone base old id base_ordered before) [
+  pub both_put : are_ordered_ids base ≡ true → are_ordered_ids contents ≡ true → IsWithScenario ids old new
+  both_put base_ordered contents_ordered = record {
+    kept = λ id h. then.kept id (first.kept id h);
+    put = λ id of_it. side_put of_it.of_base of_it.cell id of_it.has;
+    alone = λ id h. elim (then.alone id h) [
+      | inl before ↦ elim (first.alone id before) [
         | inl earlier ↦ inl earlier
-        | inr based ↦ inr (record { cell = based.0; of_base = true; has = sym (base_is based.0) ∙ based.1 })
+        | inr listed ↦ let based = at_listed base id base_ordered listed in inr (record { cell = based.0; of_base = true; has = sym (base_is based.0) ∙ based.1 })
       ]
-      | inr held ↦ inr (record { cell = held.0; of_base = false; has = sym (contents_are held.0) ∙ held.1 })
+      | inr listed ↦ let held = at_listed contents id contents_ordered listed in inr (record { cell = held.0; of_base = false; has = sym (contents_are held.0) ∙ held.1 })
     ];
   }
 

@@ -1,6 +1,6 @@
 -- Ids of a list, and ids of cells.
 use Rattle.std.proofs.Common.{◌≡◌, List, [], ◌∷◌, ◌++◌, refl, sym, ◌∙◌, ap, subst, Bool, true, false, cond, ◌&&◌, ◌||◌, inl, inr, ◌⊎◌}
-use Rattle.std.specs.Prelude.{Some, None, unwrap_or}
+use Rattle.std.specs.Prelude.{Option, Some, None, unwrap_or, if◌then◌else◌}
 use Rattle.std.proofs.lemmas.List.Folds.{list_any-append}
 use Rattle.std.specs.Ordering.{is_eq}
 use Rattle.std.specs.Cmp.{tied_itself}
@@ -11,13 +11,14 @@ use Rattle.record_versions.specs.declared.version.VersionId.{VersionId}
 use Rattle.record_versions.specs.Versions.{IdList, id_cmp, id_eq, id_at, has_id, are_ordered_ids}
 use Rattle.record_versions.proofs.Orders.{cell_exact, cell_total, id_exact, id_total}
 use Rattle.record_versions.proofs.Same.{is_same, none_below}
-use Rattle.version_reclaim.specs.Collected.{with_ids_of}
+use Rattle.version_rules.specs.Ids.{same_id}
+use Rattle.version_reclaim.specs.Collected.{with_new, is_listed, AreIn, IsWithIds}
 
 -- an id is the one that it equals
-pub same_id : (a b : VersionId) → id_eq a b ≡ true → a ≡ b
-same_id a b h = id_exact a b (is_same (id_cmp a b) h)
+same_ids : (a b : VersionId) → id_eq a b ≡ true → a ≡ b
+same_ids a b h = id_exact a b (is_same (id_cmp a b) h)
 
-pub itself : (a : VersionId) → id_eq a a ≡ true
+itself : (a : VersionId) → id_eq a a ≡ true
 itself a = ap is_eq (tied_itself id_total a)
 
 or_left : (a b : Bool) → a ≡ true → (a || b) ≡ true
@@ -35,49 +36,120 @@ or_cases : (a b : Bool) → (a || b) ≡ true → (a ≡ true) ⊎ (b ≡ true)
 or_cases true b h = inl refl
 or_cases false b h = inr h
 
-module _ (id : VersionId) where
-  -- the list with an id at its end
-  abbrev with_last : List VersionId → List VersionId
-  with_last list = list ++ id ∷ []
+-- nothing is put at first
+pub none_put : (list : List VersionId) → IsWithIds [] list list
+none_put list = record { kept = λ q h. h; put = λ q h. absurd (let no : ⊥ = cc in no); alone = λ q h. inl h }
 
-  -- an id that is put is there
-  pub put_there : (list : List VersionId) → has_id (with_last list) id ≡ true
-  put_there list = list_any-append (id_eq id) list (id ∷ []) ∙ or_right (has_id list id) (has_id (id ∷ []) id) (or_left (id_eq id id) false (itself id))
+pub none_in : (list : List VersionId) → AreIn list []
+none_in list q h = absurd (let no : ⊥ = cc in no)
 
-  module _ (q : VersionId) where
-    -- one that was there still is
-    pub put_keeps : (list : List VersionId) → has_id list q ≡ true → has_id (with_last list) q ≡ true
-    put_keeps list h = list_any-append (id_eq q) list (id ∷ []) ∙ or_left (has_id list q) (has_id (id ∷ []) q) h
+-- an id at the end of a list
+module _ (list : List VersionId) (id q : VersionId) where
+  last_there : has_id (list ++ id ∷ []) id ≡ true
+  last_there = list_any-append (id_eq id) list (id ∷ []) ∙ or_right (has_id list id) (has_id (id ∷ []) id) (or_left (id_eq id id) false (itself id))
 
-    -- and no other is
-    pub put_alone : (list : List VersionId) → has_id (with_last list) q ≡ true → (has_id list q ≡ true) ⊎ (id ≡ q)
-    put_alone list h = elim (or_cases (has_id list q) (has_id (id ∷ []) q) (sym (list_any-append (id_eq q) list (id ∷ [])) ∙ h)) [
-      | inl before ↦ inl before
-      | inr last ↦ elim (or_cases (id_eq q id) false last) [ inl at ↦ inr (sym (same_id q id at)) | inr none ↦ absurd (let no : ⊥ = cc in no) ]
-    ]
+  last_keeps : has_id list q ≡ true → has_id (list ++ id ∷ []) q ≡ true
+  last_keeps h = list_any-append (id_eq q) list (id ∷ []) ∙ or_left (has_id list q) (has_id (id ∷ []) q) h
 
--- ids of cells, put one after another
-pub all_keep : (ids : IdList) (set : List VersionId) (q : VersionId) → has_id set q ≡ true → has_id (with_ids_of set ids) q ≡ true
-all_keep [] set q h = h
-all_keep (e ∷ ids) set q h = all_keep ids (set ++ e.1 ∷ []) q (put_keeps e.1 q set h)
+  last_alone : has_id (list ++ id ∷ []) q ≡ true → (has_id list q ≡ true) ⊎ (id_eq q id ≡ true)
+  last_alone h = elim (or_cases (has_id list q) (has_id (id ∷ []) q) (sym (list_any-append (id_eq q) list (id ∷ [])) ∙ h)) [
+    | inl before ↦ inl before
+    | inr last ↦ elim (or_cases (id_eq q id) false last) [ inl at ↦ inr at | inr none ↦ absurd (let no : ⊥ = cc in no) ]
+  ]
 
--- the id of a cell is put
-pub all_put : (ids : IdList) (set : List VersionId) (cell : CellName) (q : VersionId) → id_at ids cell ≡ Some q → has_id (with_ids_of set ids) q ≡ true
-all_put [] set cell q h = absurd (let no : ⊥ = cc in no)
-all_put (e ∷ ids) set cell q h = by_cases (all_put ids (set ++ e.1 ∷ []) cell q) (is_eq (cell_cmp cell e.0)) refl
+-- one id of a cell more, beside one that is there
+module _ (done : IdList) (cell : CellName) (id : VersionId) (old list : List VersionId) (before : IsWithIds done old list) where
+  abbrev more : IdList
+  more = done ++ (cell, id) ∷ []
+
+  in_more : (q : VersionId) → is_listed more q ≡ true → (is_listed done q ≡ true) ⊎ (id_eq q id ≡ true)
+  in_more q h = elim (or_cases (is_listed done q) (is_listed ((cell, id) ∷ []) q) (sym (list_any-append (λ (e : CellName × VersionId). id_eq q e.1) done ((cell, id) ∷ [])) ∙ h)) [
+    | inl earlier ↦ inl earlier
+    | inr last ↦ elim (or_cases (id_eq q id) false last) [ inl at ↦ inr at | inr none ↦ absurd (let no : ⊥ = cc in no) ]
+  ]
+
+  more_has : (q : VersionId) → (is_listed done q ≡ true) ⊎ (id_eq q id ≡ true) → is_listed more q ≡ true
+  more_has q h = list_any-append (λ (e : CellName × VersionId). id_eq q e.1) done ((cell, id) ∷ []) ∙ elim h [
+    | inl earlier ↦ or_left (is_listed done q) (is_listed ((cell, id) ∷ []) q) earlier
+    | inr at ↦ or_right (is_listed done q) (is_listed ((cell, id) ∷ []) q) (or_left (id_eq q id) false at)
+  ]
+
+  alone_more : (q : VersionId) → (has_id list q ≡ true) ⊎ (id_eq q id ≡ true) → (has_id old q ≡ true) ⊎ (is_listed more q ≡ true)
+  alone_more q (inl here) = elim (before.alone q here) [ inl earlier ↦ inl earlier | inr listed ↦ inr (more_has q (inl listed)) ]
+  alone_more q (inr at) = inr (more_has q (inr at))
+
+  -- the id is in the list as it is
+  skipped : has_id list id ≡ true → IsWithIds more old list
+  skipped there = record {
+    kept = before.kept;
+    put = λ q h. elim (in_more q h) [
+      | inl earlier ↦ before.put q earlier
+      | inr at ↦ subst (λ (k : VersionId). has_id list k ≡ true) (sym (same_ids q id at)) there
+    ];
+    alone = λ q h. alone_more q (inl h);
+  }
+
+  -- it comes to its end
+  added : IsWithIds more old (list ++ id ∷ [])
+  added = record {
+    kept = λ q h. last_keeps list id q (before.kept q h);
+    put = λ q h. elim (in_more q h) [
+      | inl earlier ↦ last_keeps list id q (before.put q earlier)
+      | inr at ↦ subst (λ (k : VersionId). has_id (list ++ id ∷ []) k ≡ true) (sym (same_ids q id at)) (last_there list id id)
+    ];
+    alone = λ q h. alone_more q (last_alone list id q h);
+  }
+
+  pub one_put : (other : Option VersionId) → ((o : VersionId) → other ≡ Some o → has_id list o ≡ true) → IsWithIds more old (with_new other id list)
+  one_put other there = by_cases (same_id other (Some id)) refl
+    where
+      same_there : (o : Option VersionId) → ((k : VersionId) → o ≡ Some k → has_id list k ≡ true) → same_id o (Some id) ≡ true → has_id list id ≡ true
+      same_there None t h = absurd (let no : ⊥ = cc in no)
+      same_there (Some k) t h = subst (λ (x : VersionId). has_id list x ≡ true) (same_ids k id h) (t k refl)
+
+      by_cases : (t : Bool) → same_id other (Some id) ≡ t → IsWithIds more old (if t then list else list ++ id ∷ [])
+      by_cases true t = skipped (same_there other there t)
+      by_cases false t = added
+
+-- what is beside stays
+pub still_in : (others : IdList) (other : Option VersionId) (id : VersionId) (list : List VersionId) → AreIn list others → AreIn (with_new other id list) others
+still_in others other id list h = by_cases (same_id other (Some id))
   where
-    by_cases : (id_at ids cell ≡ Some q → has_id (with_ids_of set (e ∷ ids)) q ≡ true) → (t : Bool) → is_eq (cell_cmp cell e.0) ≡ t → has_id (with_ids_of set (e ∷ ids)) q ≡ true
+    by_cases : (t : Bool) → AreIn (if t then list else list ++ id ∷ []) others
+    by_cases true = h
+    by_cases false = λ q listed. last_keeps list id q (h q listed)
+
+-- the one that is beside, if there is one, is there, and so are those after it
+abbrev pub IsBeside : List VersionId → Option VersionId → IdList → Type 0
+IsBeside list other others = ((o : VersionId) → other ≡ Some o → has_id list o ≡ true) × AreIn list others
+
+pub first_beside : (list : List VersionId) (cell : CellName) (o : VersionId) (before others : IdList) (other : Option VersionId) → AreIn list before → before ≡ (cell, o) ∷ others → other ≡ Some o → IsBeside list other others
+first_beside list cell o before others other h split is =
+    let all : AreIn list ((cell, o) ∷ others) = subst (AreIn list) split h in (
+      λ k e. subst (λ (x : VersionId). has_id list x ≡ true) (ap (λ (r : Option VersionId). unwrap_or r o) (sym is ∙ e)) (all o (or_left (id_eq o o) (is_listed others o) (itself o))),
+      λ q listed. all q (or_right (id_eq q o) (is_listed others q) listed),
+    )
+
+pub none_beside : (list : List VersionId) (others : IdList) (other : Option VersionId) → others ≡ [] → other ≡ None → IsBeside list other others
+none_beside list others other gone is = (λ k e. absurd (let no : ⊥ = cc in no), subst (AreIn list) (sym gone) (none_in list))
+
+-- the id of a cell is listed
+pub listed_at : (ids : IdList) (cell : CellName) (q : VersionId) → id_at ids cell ≡ Some q → is_listed ids q ≡ true
+listed_at [] cell q h = absurd (let no : ⊥ = cc in no)
+listed_at (e ∷ ids) cell q h = by_cases (listed_at ids cell q) (is_eq (cell_cmp cell e.0)) refl
+  where
+    by_cases : (id_at ids cell ≡ Some q → is_listed ids q ≡ true) → (t : Bool) → is_eq (cell_cmp cell e.0) ≡ t → is_listed (e ∷ ids) q ≡ true
     by_cases later true t =
         let is : e.1 ≡ q = ap (λ o. unwrap_or o q) (sym (ap (λ b. cond b (Some e.1) (id_at ids cell)) t) ∙ h) in
-        subst (λ (k : VersionId). has_id (with_ids_of set (e ∷ ids)) k ≡ true) is (all_keep ids (set ++ e.1 ∷ []) e.1 (put_there e.1 set))
-    by_cases later false t = later (sym (ap (λ b. cond b (Some e.1) (id_at ids cell)) t) ∙ h)
+        or_left (id_eq q e.1) (is_listed ids q) (subst (λ (k : VersionId). id_eq q k ≡ true) (sym is) (itself q))
+    by_cases later false t = or_right (id_eq q e.1) (is_listed ids q) (later (sym (ap (λ b. cond b (Some e.1) (id_at ids cell)) t) ∙ h))
 
--- what is put is the id of a cell
-pub all_alone : (ids : IdList) (set : List VersionId) (q : VersionId) → are_ordered_ids ids ≡ true → has_id (with_ids_of set ids) q ≡ true → (has_id set q ≡ true) ⊎ ((cell : CellName) × (id_at ids cell ≡ Some q))
-all_alone [] set q s h = inl h
-all_alone (e ∷ ids) set q s h = let ordered = both (below_all cell_cmp e.0 ids) (are_ordered_ids ids) s in elim (all_alone ids (set ++ e.1 ∷ []) q ordered.1 h) [
-  | inl here ↦ elim (put_alone e.1 q set here) [ inl before ↦ inl before | inr is ↦ inr (e.0, first ∙ ap Some is) ]
-  | inr later ↦ inr (later.0, further ordered.0 later.0 later.1)
+-- what is listed is the id of a cell
+pub at_listed : (ids : IdList) (q : VersionId) → are_ordered_ids ids ≡ true → is_listed ids q ≡ true → (cell : CellName) × (id_at ids cell ≡ Some q)
+at_listed [] q s h = absurd (let no : ⊥ = cc in no)
+at_listed (e ∷ ids) q s h = let ordered = both (below_all cell_cmp e.0 ids) (are_ordered_ids ids) s in elim (or_cases (id_eq q e.1) (is_listed ids q) h) [
+  | inl at ↦ (e.0, first ∙ ap Some (sym (same_ids q e.1 at)))
+  | inr listed ↦ let later = at_listed ids q ordered.1 listed in (later.0, further ordered.0 later.0 later.1)
 ]
   where
     first : id_at (e ∷ ids) e.0 ≡ Some e.1

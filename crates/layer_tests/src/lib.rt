@@ -14,3 +14,5 @@ mod runs;
 mod stepped;
 #[cfg(test)]
 mod walks;
+#[cfg(test)]
+mod worn;

@@ -92,7 +92,8 @@ fn a_chain_of_300_levels(rt: HostRuntime) -> Result<(), Fail> {
 #[test]
 fn the_least_name_of_a_cycle_above(rt: HostRuntime) -> Result<(), Fail> {
     let text =
-        b"PLAN,2025-03-03,5\nPART,A,0,L4L,0,-\nPART,B,0,L4L,0,-\nPART,M,0,L4L,0,-\nPART,X,0,L4L,0,-\nPART,Y,0,L4L,0,-\nBILL,A,B,1\nBILL,B,A,1\nBILL,M,A,1\nBILL,X,Y,1\nBILL,Y,X,1\nBILL,Y,M,1\n";
+        b"PLAN,2025-03-03,5\nPART,A,0,L4L,0,-\nPART,B,0,L4L,0,-\nPART,M,0,L4L,0,-\nPART,X,0,L4L,0,-\nPART,Y,0,L4L,0,-\n\
+        BILL,A,B,1\nBILL,B,A,1\nBILL,M,A,1\nBILL,X,Y,1\nBILL,Y,X,1\nBILL,Y,M,1\n";
     let mut core = begun(rt.alloc(), text)?;
     let script: &[(Line, &'static [u8])] = &[
         (Line::Part(b"Baseline", b"M"), b"NO @0 cyclic X"),

@@ -79,7 +79,8 @@ fn audit_from<S: Source, K: Source>(
     requires sound { AreSound case.now.entries.now }
     requires accepted { AreAccepted case.now.base.now case.now.entries.now }
     requires few { case.now.session + desk_count (drop at rounds.old) < 2 ^ 64 }
-    ensures seen { (pairs : List (List Pair)) → AreRoundsTold S.left K.left (drop at rounds.old) pairs
+    ensures seen { (pairs : List (List Pair))
+        → AreRoundsTold S.left K.left (drop at rounds.old) pairs
         → ArePoints (rounds_seen case.now.base.now case.now.entries.now case.now.session pairs)
         points.old.items points.new.items result }
     ensures gone { AreRoundsGone S.faults S.label K.faults K.label rounds.old rounds.new }

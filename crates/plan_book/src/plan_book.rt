@@ -49,7 +49,8 @@ pub trait PlanBook: Storied<Entry = Entry, Basis = Ground> {
 
     /// The scenarios that a user may use, with the number of entries.
     fn tree(&self, user: &Name) -> Result<(u64, Lines), AllocError>
-        ensures { IfOk result (IsTree (state_by Self.story Self.basis Self.work self.now) user.now) };
+        ensures { IfOk result
+            (IsTree (state_by Self.story Self.basis Self.work self.now) user.now) };
 
     /// A round of a walk: makes what was netted known and puts it into the memo, and then takes all hits from it.
     fn round(&mut self, walk: &mut Walk, solved: Solved) -> Result<Round, AllocError>

@@ -7,7 +7,8 @@ use std::test::Fail;
 
 /// Changes of every kind, with the rows of a load.
 const CHANGES: &str =
-    "1 1 2 ann BRANCH Baseline X\n2 1 3 ann LOAD X 2\nSTOCK A 40\nBILL A B 3\n3 1 6 ann PUT Baseline STOCK B 5\n4 1 7 ann UPDATE X\n5 1 8 ann DEL X STOCK A\n6 1 9 ann COMMIT X\n7 1 10 ann SHARE X\n8 1 11 ann DROP X\n";
+    "1 1 2 ann BRANCH Baseline X\n2 1 3 ann LOAD X 2\nSTOCK A 40\nBILL A B 3\n3 1 6 ann PUT Baseline STOCK B 5\n\
+    4 1 7 ann UPDATE X\n5 1 8 ann DEL X STOCK A\n6 1 9 ann COMMIT X\n7 1 10 ann SHARE X\n8 1 11 ann DROP X\n";
 
 /// A change that the first version has not.
 const SPAN: &str = "9 1 12 ann PUT Baseline BILL A B 3 2025-03-03 2025-03-07\n";

@@ -24,7 +24,8 @@ pub(crate) fn read_round_words<'a>(
     alloc: Global,
     names: &[&'a str],
 ) -> Result<RoundWords<'a>, WordFault>
-    ensures ok { IfOk result (λ words. round_words (map (λ name. name.now) names.now) ≡ Some words) }
+    ensures ok { IfOk result
+        (λ words. round_words (map (λ name. name.now) names.now) ≡ Some words) }
     ensures words { result ≡ Err WordFault.Words
         → round_words (map (λ name. name.now) names.now) ≡ None }
 {

@@ -117,8 +117,10 @@ fn read_pairs<'a>(names: &[&'a str], pairs: &mut Vec<PlacedPair<'a>>) -> Result<
 /// The pair at the front of words, and what stands behind it, where something does: `/` ends the pair's round.
 #[tactic(auto, unfolding(crate::specs::Rounds::placed_pairs))]
 fn split_pair<'n, 'a>(names: &'n [&'a str]) -> Option<(PlacedPair<'a>, Option<&'n [&'a str]>)>
-    ensures none { IfNone result (spec.placed_pairs (map (λ name. name.now) names.entry.now) ≡ None) }
-    ensures some { IfSome result (λ split. spec.placed_pairs (map (λ name. name.now) names.entry.now)
+    ensures none { IfNone result
+        (spec.placed_pairs (map (λ name. name.now) names.entry.now) ≡ None) }
+    ensures some { IfSome result (λ split.
+        spec.placed_pairs (map (λ name. name.now) names.entry.now)
         ≡ spec.with_pair split.0
         (spec.pairs_behind (option_map (λ rest. map (λ name. name.now) rest.now) split.1))) }
     ensures shorter { IfSome result (λ split.

@@ -50,8 +50,8 @@ const NO_MEMORY: u8 = 1;
 
 /// Does what the words ask for with the files of a shelf, tells the console how it ended, and answers the status: 0 where all ended,
 /// 1 for want of memory, 2 where the words aren't the program's, 3 where the base is refused, 4, 5 and 6 where a file couldn't be
-/// opened, read and written, 7 where the input passed its limit, and 9 where a journal can't be replayed or a run isn't legal. Sessions of a round wait for
-/// each other's turns.
+/// opened, read and written, 7 where the input passed its limit, and 9 where a journal can't be replayed or a run isn't legal.
+/// Sessions of a round wait for each other's turns.
 pub fn response<H: Shelf, R: Threads + Wait + Sync>(
     rt: &R,
     alloc: Global,

@@ -1,17 +1,28 @@
 -- Names by their places, and bills as graphs of places.
 use Rattle.std.specs.Prelude.{◌≡◌, ℕ, ◌<◌, ◌⊎◌, List, [], ◌∷◌, ◌++◌, Option, Some, None, Bool, true, length, slice_get, map}
 use Rattle.std.specs.List.{list_any}
-use Rattle.std.specs.Ordering.{nat_cmp, ordering_then, is_eq}
+use Rattle.std.specs.Ordering.{nat_cmp, ordering_then, is_eq, is_lt}
 use Rattle.std.specs.declared.cmp.Ordering.{Ordering}
 use Rattle.plan_schema.specs.Key.{name_eq, name_cmp}
 use Rattle.plan_schema.specs.declared.name.Name.{Name}
 use Rattle.planning_rules.specs.Bills.{parents}
-use Rattle.low_level_codes.specs.Levels.{as_records, are_by_level}
-use Rattle.low_level_codes.specs.Graphs.{at, level_at, AreWithin, AreTurned}
+use Rattle.low_level_codes.specs.Levels.{as_records, are_ascending, are_by_level}
+use Rattle.low_level_codes.specs.Graphs.{at, marked, level_at, AreWithin, AreTurned}
 
 -- a name stands in a list
 abbrev pub holds : List Name → Name → Bool
 holds ns n = list_any (λ m. name_eq n m) ns
+
+-- these are the names at the marked places, in ascending order, each once
+pub record AreMarked (ns : List Name) (seen : List Bool) (found : List Name) : Type 0 where
+  pub has : (k : ℕ) (n : Name) → slice_get ns k ≡ Some n → marked seen k ≡ true → holds found n ≡ true
+  pub only : (n : Name) → holds found n ≡ true → (k : ℕ) × (slice_get ns k ≡ Some n) × (marked seen k ≡ true)
+  pub order : are_ascending found ≡ true
+
+-- a name stands after the last one, if there is one
+abbrev pub goes_after : Option Name → Name → Bool
+goes_after None n = true
+goes_after (Some last) n = is_lt (name_cmp last n)
 
 -- a name has no place
 abbrev pub Lacks : List Name → Name → Type 0

@@ -1,10 +1,9 @@
 //! Names and all their ancestors.
-ghost use Rattle.std.specs.Prelude.{◌≡◌, ◌<◌, ℕ, List, true, length, Some, IfOk, OnOk, slice_get};
-ghost use Rattle.std.specs.List.{list_any};
+ghost use Rattle.std.specs.Prelude.{◌≡◌, List, length, IfOk, IfSome, OnOk};
 ghost use Rattle.plan_schema.specs.declared.name.Name.{Name};
-ghost use Rattle.low_level_codes.specs.Graphs.{marked, shown};
-ghost use Rattle.low_level_codes.specs.Levels.{are_ascending, AreClosed, IsClosure};
-ghost use Rattle.low_level_codes.specs.Numbers.{holds, IsGraph};
+ghost use Rattle.low_level_codes.specs.Graphs.{shown};
+ghost use Rattle.low_level_codes.specs.Levels.{AreClosed, IsClosure};
+ghost use Rattle.low_level_codes.specs.Numbers.{AreMarked, IsGraph, goes_after};
 
 use crate::graph::Graph;
 use crate::numbering::Numbering;
@@ -13,18 +12,52 @@ use plan_schema::Name;
 use std::alloc::{AllocError, Global};
 use std::collections::BTreeSet;
 
-/// The names at marked places.
-fn marked_names(
+/// Whether a name stands after the last one, if there is one.
+fn is_after(last: &Option<Name>, name: &Name) -> bool
+    ensures { result ≡ goes_after last.now name.now }
+{
+    match last {
+        Some(last) => last.cmp(name).is_lt(),
+        None => true,
+    }
+}
+
+/// The names at marked places, where the places give them in ascending order.
+fn names_in_order(
+    alloc: Global,
+    names: &Numbering,
+    seen: &[bool],
+) -> Result<Option<Vec<Name>>, AllocError>
+    requires { length seen.now ≡ length names.now }
+    ensures { IfOk result (λ found. IfSome found
+        (λ found. AreMarked names.now seen.now found.items)) }
+{
+    let mut found = Vec::new(alloc);
+    let mut last = None;
+    for place in 0..seen.len() {
+        if !seen[place] {
+            continue;
+        }
+        let Some(name) = names.name(place) else {
+            unreachable!()
+        };
+        if !is_after(&last, name) {
+            return Ok(None);
+        }
+        found.push(*name)?;
+        last = Some(*name);
+    }
+    Ok(Some(found))
+}
+
+/// The names at marked places, as a set.
+fn set_of_names(
     alloc: Global,
     names: &Numbering,
     seen: &[bool],
 ) -> Result<BTreeSet<Name>, AllocError>
     requires { length seen.now ≡ length names.now }
-    ensures has { IfOk result (λ found. (k : ℕ) (n : Name) → slice_get names.now k ≡ Some n
-        → marked seen.now k ≡ true → holds found.keys n ≡ true) }
-    ensures only { IfOk result (λ found. (n : Name) → holds found.keys n ≡ true
-        → (k : ℕ) × (slice_get names.now k ≡ Some n) × (marked seen.now k ≡ true)) }
-    ensures order { IfOk result (λ found. are_ascending found.keys ≡ true) }
+    ensures { IfOk result (λ found. AreMarked names.now seen.now found.keys) }
 {
     let mut found = BTreeSet::new(alloc);
     for place in 0..seen.len() {
@@ -50,6 +83,19 @@ fn in_order(alloc: Global, mut found: BTreeSet<Name>) -> Result<Vec<Name>, Alloc
     Ok(names)
 }
 
+/// The names at marked places, in ascending order. Where the places give them so, none is searched for.
+fn marked_names(alloc: Global, names: &Numbering, seen: &[bool]) -> Result<Vec<Name>, AllocError>
+    requires { length seen.now ≡ length names.now }
+    ensures { IfOk result (λ found. AreMarked names.now seen.now found.items) }
+{
+    if let Some(found) = names_in_order(alloc, names, seen)? {
+        return Ok(found);
+    }
+    let set = set_of_names(alloc, names, seen)?;
+    let found = in_order(alloc, set)?;
+    Ok(found)
+}
+
 /// The names and all their ancestors by a graph, in ascending order, each once.
 pub fn reached_names(
     alloc: Global,
@@ -68,8 +114,7 @@ pub fn reached_names(
 {
     let places = graph.places_of(alloc, from)?;
     let seen = reach(alloc, graph.ups.as_slice(), places.as_slice())?;
-    let found = marked_names(alloc, &graph.names, seen.as_slice())?;
-    let closed = in_order(alloc, found)?;
+    let closed = marked_names(alloc, &graph.names, seen.as_slice())?;
     Ok(closed)
 }
 

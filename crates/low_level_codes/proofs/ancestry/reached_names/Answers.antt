@@ -39,13 +39,12 @@ returns-clause-members c = λ bills drawn.
     let r : IsReach us places c.in_ok-seen.seen.items =
     subst (λ ps. IsReach us ps c.in_ok-seen.seen.items) c.as_slice-2.ensures.value (subst (λ us. IsReach (shown us) c.as_slice-2.result.now c.in_ok-seen.seen.items) c.as_slice.ensures.value c.in_ok-seen.ensures) in
     let seen : c.as_slice-3.result.now ≡ c.in_ok-seen.seen.items = c.as_slice-3.ensures.value in
-    let is : IsClosure bills from c.in_ok-found.found.keys = record {
-      ascending = c.in_ok-found.ensures.order;
+    record {
+      ascending = c.in_ok-closed.ensures.order;
       members = λ n. (
-        (λ there. let w = c.in_ok-found.ensures.only n (in_held c.in_ok-found.found.keys n (in_contained c.in_ok-found.found.keys n there)) in
+        (λ there. let w = c.in_ok-closed.ensures.only n (in_held c.in_ok-closed.closed.items n (in_contained c.in_ok-closed.closed.items n there)) in
             closure_only bills ns us ds g places from stand c.in_ok-seen.seen.items r w.0 n w.1 (subst (λ bs. marked bs w.0 ≡ true) seen w.2)),
         (λ what. let w = closure_has bills ns us ds g places from stand c.in_ok-seen.seen.items r n what in
-            contained_in c.in_ok-found.found.keys n (held_in c.in_ok-found.found.keys n (c.in_ok-found.ensures.has w.0 n w.1 (subst (λ bs. marked bs w.0 ≡ true) (sym seen) w.2)))),
+            contained_in c.in_ok-closed.closed.items n (held_in c.in_ok-closed.closed.items n (c.in_ok-closed.ensures.has w.0 n w.1 (subst (λ bs. marked bs w.0 ≡ true) (sym seen) w.2)))),
       );
-    } in
-    subst (IsClosure bills from) (sym c.in_ok-closed.ensures) is
+    }

@@ -8,7 +8,7 @@ use Rattle.low_level_codes.specs.Numbers.{holds}
 use Rattle.low_level_codes.proofs.Places.{marked_at, never, marked_inside}
 use Rattle.low_level_codes.proofs.Ancestors.{beyond}
 use Rattle.low_level_codes.proofs.Finding.{ascending, found_more, found_here, found_one, has_more}
-use Rattle.low_level_codes.proofs.ancestry.marked_names.Goals as goal
+use Rattle.low_level_codes.proofs.ancestry.set_of_names.Goals as goal
 
 pub loop-place-preserved-then-not-seen-place : goal.loop-place-preserved-then-not-seen-place
 loop-place-preserved-then-not-seen-place c =
@@ -46,5 +46,9 @@ loop-place-preserved c =
       order = ascending new c.in_ok-insert.ensures.ordered;
     }
 
-pub returns-clause-has : goal.returns-clause-has
-returns-clause-has c = λ k n is h. c.loop-place.invariant.has k n (let less = marked_inside c.args.seen.now k h in let more = c.loop-place-test.false in omega arith) is h
+pub returns : goal.returns
+returns c = record {
+  has = λ k n is h. c.loop-place.invariant.has k n (let less = marked_inside c.args.seen.now k h in let more = c.loop-place-test.false in omega arith) is h;
+  only = c.loop-place.invariant.only;
+  order = c.loop-place.invariant.order;
+}

@@ -4,7 +4,7 @@ use Rattle.plan_schema.specs.declared.name.Name.{Name}
 use Rattle.low_level_codes.specs.Graphs.{marked}
 use Rattle.low_level_codes.specs.Levels.{are_ascending}
 use Rattle.low_level_codes.specs.Numbers.{holds}
-use Rattle.low_level_codes.proofs.ancestry.marked_names.Given as goal
+use Rattle.low_level_codes.proofs.ancestry.set_of_names.Given as goal
 
 abbrev pub invariant-loop-place : goal.invariant-loop-place
 invariant-loop-place l = record {

@@ -128,7 +128,7 @@ pub fn closure(
     ensures members { IfOk result (λ closed. IsClosure bills.now from.now closed.items) }
     ensures closed { IfOk result (λ closed. AreClosed bills.now closed.items) }
 {
-    let mut graph = Graph::of(alloc, bills)?;
+    let mut graph = Graph::of(alloc, bills, from)?;
     let closed = reached_names(alloc, &mut graph, from)?;
     Ok(closed)
 }

@@ -135,7 +135,7 @@ pub fn levels(
     ensures levels { IfOk result (λ levels. AreLevels bills.now names.now levels.items) }
     ensures cyclic { IfErr result (WhereCyclic bills.now names.now) }
 {
-    let mut graph = Graph::of(alloc, bills)?;
+    let mut graph = Graph::of(alloc, bills, names)?;
     levels_in(alloc, &mut graph, names)
 }
 
@@ -151,7 +151,7 @@ pub fn closure_and_levels(
         (λ levels. AreLevels bills.now r.0.items levels.items)) }
     ensures cyclic { IfOk result (λ r. IfErr r.1 (WhereCyclic bills.now r.0.items)) }
 {
-    let mut graph = Graph::of(alloc, bills)?;
+    let mut graph = Graph::of(alloc, bills, from)?;
     let closed = reached_names(alloc, &mut graph, from)?;
     let levels = levels_in(alloc, &mut graph, closed.as_slice());
     Ok((closed, levels))

@@ -78,12 +78,13 @@ impl Graph {
         Ok(())
     }
 
-    /// The graph of some bills.
-    pub fn of(alloc: Global, bills: &[(Name, Name)]) -> Result<Graph, AllocError>
+    /// The graph of some bills, in which some names have the first places, in their order.
+    pub fn of(alloc: Global, bills: &[(Name, Name)], first: &[Name]) -> Result<Graph, AllocError>
         ensures { IfOk result (λ graph.
             IsGraph bills.now graph.names (shown graph.ups.items) (shown graph.downs.items)) }
     {
         let mut graph = Graph::new(alloc);
+        let _places = graph.places_of(alloc, first)?;
         for bill in bills {
             graph.add(alloc, bill.0, bill.1)?;
         }

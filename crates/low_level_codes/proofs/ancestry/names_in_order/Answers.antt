@@ -1,8 +1,5 @@
 use Rattle.std.proofs.Common.{◌≡◌, [], ◌∷◌, ◌++◌, inl, inr, Some, length, arith, subst, get_or, refl, sym, ◌∙◌, ap, true, false}
 use Rattle.std.specs.Prelude.{slice_get}
-use Rattle.plan_schema.specs.declared.name.Name.{Name}
-use Rattle.plan_schema.specs.Key.{name_eq}
-use Rattle.planning_rules.proofs.LevelLaws.{same_name}
 use Rattle.low_level_codes.specs.Graphs.{marked}
 use Rattle.low_level_codes.specs.Numbers.{holds, goes_after}
 use Rattle.low_level_codes.proofs.Places.{marked_at, never, marked_inside}

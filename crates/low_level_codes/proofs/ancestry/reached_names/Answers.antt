@@ -2,7 +2,6 @@ use Rattle.std.proofs.Common.{◌≡◌, ◌<◌, length, sym, ◌∙◌, ap, su
 use Rattle.std.specs.List.{AllByRecursion}
 use Rattle.planning_rules.proofs.Membership.{in_contained, contained_in}
 use Rattle.low_level_codes.specs.Graphs.{shown, marked, AreWithin, IsReach}
-use Rattle.low_level_codes.specs.Levels.{IsClosure}
 use Rattle.low_level_codes.proofs.Places.{shown_long}
 use Rattle.low_level_codes.proofs.Ancestors.{closure_only, closure_has, held_in, in_held, places_within}
 use Rattle.low_level_codes.proofs.ancestry.reached_names.Goals as goal

@@ -2,7 +2,17 @@ use Rattle.std.proofs.Common.{◌≡◌, ◌+◌, [], ◌∷◌, ◌++◌, take,
 use Rattle.low_level_codes.specs.Graphs.{shown}
 use Rattle.low_level_codes.specs.Numbers.{IsGraph}
 use Rattle.std.proofs.lemmas.List.{take_more}
+use Rattle.low_level_codes.proofs.Places.{shown_long}
 use Rattle.low_level_codes.proofs.graph.Graph.of.Goals as goal
+
+pub loop-bill-init : goal.loop-bill-init
+loop-bill-init c =
+    let g = c.in_ok-_places.ensures.graph [] c.new-graph.ensures in
+    record {
+      ups = sym (shown_long c.places_of.new.self.ups.items) ∙ g.whole;
+      downs = sym (shown_long c.places_of.new.self.downs.items) ∙ g.below;
+      graph = g;
+    }
 
 pub loop-bill-preserved : goal.loop-bill-preserved
 loop-bill-preserved c =

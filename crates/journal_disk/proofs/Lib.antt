@@ -5,3 +5,5 @@ pub mod Pieces
 pub mod Past
 pub mod Histories
 pub mod CutShort
+pub mod Images
+pub mod Writes

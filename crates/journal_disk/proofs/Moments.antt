@@ -36,3 +36,7 @@ goes_on old mid new P so_far time here = record {
   each = λ image left. ⊎_elim (so_far.each image) (here image) (time.nothing_else old.time image so_far.later left);
   before = λ t image le left. ⊎_elim (so_far.before t image le) (λ now. inr (here image now)) (time.nothing_else t image (omega (arith, le, so_far.later)) left);
 }
+
+-- one call more, after which a crash leaves nothing else
+pub stays_on : (old mid new : Moment) (P : List ℕ → Type 0) → EachMoment old mid P → GoesOn mid new → ((image : List ℕ) → new.images image → mid.images image) → ((image : List ℕ) → mid.images image → mid.since old.time image) → EachMoment old new P
+stays_on old mid new P so_far time fewer counts = goes_on old mid new P so_far time (λ image left. so_far.each image (counts image (fewer image left)))

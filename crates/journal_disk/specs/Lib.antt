@@ -1,5 +1,6 @@
 pub mod Disks
 pub mod Stores
+pub mod Images
 pub mod Recovery
 pub mod Memory
 pub mod Synced

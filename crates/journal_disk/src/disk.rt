@@ -1,6 +1,6 @@
 //! Disks, and shelves of them. A program over these traits is proved for every disk that keeps to them: what a read gives, and what a
 //! crash at any moment may leave. A disk that tells nothing of its bytes (a real file) leaves them out as `None`.
-ghost use Rattle.std.specs.Prelude.{◌≡◌, ◌⊎◌, ◌≤◌, ◌++◌, List, ℕ, Option, Some, length, take, drop};
+ghost use Rattle.std.specs.Prelude.{◌≡◌, ◌⊎◌, ◌≤◌, ◌++◌, List, ℕ, Option, Some, None, length, take, drop};
 ghost use Rattle.std.specs.Prelude.{IfOk, OnOk, OnErr};
 ghost use Rattle.plan_schema.specs.Outside.{ReadCause, Stays, StaysBut, GrewBy};
 ghost use Rattle.journal_disk.specs.Disks.{Moment, Looked, GoesOn, Gave, HasPlace, IsWritten, IsTorn, IsOnDisk};
@@ -33,6 +33,7 @@ pub trait Disk {
             (moment self.new)) }
         ensures torn { OnErr result (IsTorn place (length from.now) (moment self.old)
             (moment self.new)) }
+        ensures silent { (moment self.old).told ≡ None → (moment self.new).told ≡ None }
         ensures images { Tears place (length from.now) (moment self.old) (moment self.new) }
         ensures time { GoesOn (moment self.old) (moment self.new) }
         ensures cause { ReadCause (moment self.old).faults (moment self.new).faults result };

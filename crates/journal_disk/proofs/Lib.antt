@@ -7,3 +7,4 @@ pub mod Histories
 pub mod CutShort
 pub mod Images
 pub mod Writes
+pub mod Held

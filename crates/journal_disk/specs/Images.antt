@@ -53,9 +53,15 @@ IsImageAround entries entry image = IsImageOf entries image ⊎ IsImageOf (entri
 abbrev pub EachImage : Moment → (List ℕ → Type 0) → Type 0
 EachImage moment P = (bytes : List ℕ) → moment.told ≡ Some bytes → (image : List ℕ) → moment.images image → P image
 
--- what a crash at any moment of a call may leave has P, where the disk told its bytes
+-- what a crash at any moment of a call may leave has P, and the disk still tells its bytes
+pub record EachMomentTold (old new : Moment) (P : List ℕ → Type 0) : Type 0 where
+  pub moments : EachMoment old new P
+  pub bytes : List ℕ
+  pub told : new.told ≡ Some bytes
+
+-- the same, where the disk told its bytes before the call
 abbrev pub EachTold : Moment → Moment → (List ℕ → Type 0) → Type 0
-EachTold old new P = (bytes : List ℕ) → old.told ≡ Some bytes → EachMoment old new P
+EachTold old new P = (bytes : List ℕ) → old.told ≡ Some bytes → EachMomentTold old new P
 
 -- entries are on the disk, with the closed gate behind them at a place
 pub record IsSettled (moment : Moment) (entries : List Entry) (end : ℕ) : Type 0 where

@@ -1,6 +1,7 @@
 pub mod Disks
 pub mod Stores
 pub mod Images
+pub mod Stored
 pub mod Recovery
 pub mod Memory
 pub mod Synced

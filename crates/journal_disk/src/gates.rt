@@ -50,7 +50,7 @@ pub(crate) fn open_at<D: Disk>(disk: &mut D, place: u64) -> Result<(), Failed>
     ensures kept { (entries : List Entry) (entry : Entry)
         → IsDoubted (D.moment disk.old) entries entry place
         → IsDoubted (D.moment disk.new) entries entry place }
-    ensures open { OnOk result ((entries : List Entry) (entry : Entry)
+    ensures opened { OnOk result ((entries : List Entry) (entry : Entry)
         → IsDoubted (D.moment disk.old) entries entry place
         → EachImage (D.moment disk.new) (IsImageOf (entries ++ entry ∷ []))) }
     ensures any_moment { (entries : List Entry) (entry : Entry)

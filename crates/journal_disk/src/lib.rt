@@ -10,6 +10,7 @@ mod laws;
 mod memory;
 mod recovered;
 mod recovery;
+mod store;
 
 pub use creation::create;
 pub use disk::{Disk, DiskShelf};
@@ -19,3 +20,4 @@ pub use laws::{blocks_cut_short_count_for_nothing, stores_stand_for_one_history}
 pub use memory::MemoryDisk;
 pub use recovered::Recovered;
 pub use recovery::recover;
+pub use store::Store;

@@ -1,4 +1,4 @@
-use Rattle.std.proofs.Common.{arith}
+use Rattle.std.proofs.Common.{◌∙◌, arith}
 use Rattle.std.proofs.lemmas.Result.{on_ok_weaker}
 use Rattle.journal_disk.proofs.Images.{gated_place}
 use Rattle.journal_disk.proofs.Moments.{stays_on}
@@ -21,7 +21,9 @@ returns-in_err-write_at-clause-kept g c entries entry =
 pub returns-in_err-write_at-clause-any_moment : goal.returns-in_err-write_at-clause-any_moment
 returns-in_err-write_at-clause-any_moment g c entries entry doubted bytes told =
     let wrote = c.in_err-write_at.ensures in
-    each_gate _ _ (g.met.D.Disk.only_now c.args.disk.now) bytes told wrote.time entries entry c.args.place wrote.images doubted
+    let torn = wrote.torn bytes told in
+    let moments = each_gate _ _ (g.met.D.Disk.only_now c.args.disk.now) bytes told wrote.time entries entry c.args.place wrote.images doubted in
+    record { moments = moments; bytes = torn.0; told = torn.1 }
 
 pub returns-clause-kept : goal.returns-clause-kept
 returns-clause-kept g c entries entry doubted =
@@ -32,8 +34,8 @@ returns-clause-kept g c entries entry doubted =
     let torn = doubted_torn old mid wrote.silent entries entry c.args.place wrote.images doubted in
     record { place_is = torn.place_is; images = images_kept mid new _ c.sync.ensures.told c.sync.ensures.images torn.images }
 
-pub returns-clause-open : goal.returns-clause-open
-returns-clause-open g c =
+pub returns-clause-opened : goal.returns-clause-opened
+returns-clause-opened g c =
     let wrote = c.in_ok-write_at.ensures in
     let old = g.D.Disk.moment c.args.disk.now in
     let mid = g.D.Disk.moment c.write_at.new.self in
@@ -49,4 +51,8 @@ returns-clause-any_moment g c entries entry doubted bytes told =
     let mid = g.D.Disk.moment c.write_at.new.self in
     let new = g.D.Disk.moment c.sync.new.self in
     let so_far = each_gate old mid (g.met.D.Disk.only_now c.args.disk.now) bytes told wrote.time entries entry c.args.place wrote.images doubted in
-    stays_on old mid new _ so_far c.sync.ensures.time c.sync.ensures.images (λ image left. g.met.D.Disk.counts_now c.write_at.new.self old.time image so_far.later left)
+    record {
+      moments = stays_on old mid new _ so_far c.sync.ensures.time c.sync.ensures.images (λ image left. g.met.D.Disk.counts_now c.write_at.new.self old.time image so_far.later left);
+      bytes = _;
+      told = c.sync.ensures.told ∙ wrote.written bytes told;
+    }

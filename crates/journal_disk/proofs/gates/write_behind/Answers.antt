@@ -1,4 +1,4 @@
-use Rattle.std.proofs.Common.{length}
+use Rattle.std.proofs.Common.{◌∙◌, length}
 use Rattle.std.proofs.lemmas.Result.{on_ok_weaker}
 use Rattle.journal_disk.proofs.Moments.{stays_on}
 use Rattle.journal_disk.proofs.Writes.{images_kept, settled_torn, settled_written, each_block}
@@ -12,7 +12,9 @@ returns-in_err-write_at-clause-kept g c entries =
 pub returns-in_err-write_at-clause-any_moment : goal.returns-in_err-write_at-clause-any_moment
 returns-in_err-write_at-clause-any_moment g c entries settled bytes told =
     let wrote = c.in_err-write_at.ensures in
-    each_block _ _ (g.met.D.Disk.only_now c.args.disk.now) bytes told wrote.time entries c.args.end (length c.args.block.now) c.requires.room wrote.images settled
+    let torn = wrote.torn bytes told in
+    let moments = each_block _ _ (g.met.D.Disk.only_now c.args.disk.now) bytes told wrote.time entries c.args.end (length c.args.block.now) c.requires.room wrote.images settled in
+    record { moments = moments; bytes = torn.0; told = torn.1 }
 
 pub returns-clause-kept : goal.returns-clause-kept
 returns-clause-kept g c entries settled =
@@ -40,4 +42,8 @@ returns-clause-any_moment g c entries settled bytes told =
     let mid = g.D.Disk.moment c.write_at.new.self in
     let new = g.D.Disk.moment c.sync.new.self in
     let so_far = each_block old mid (g.met.D.Disk.only_now c.args.disk.now) bytes told wrote.time entries c.args.end (length c.args.block.now) c.requires.room wrote.images settled in
-    stays_on old mid new _ so_far c.sync.ensures.time c.sync.ensures.images (λ image left. g.met.D.Disk.counts_now c.write_at.new.self old.time image so_far.later left)
+    record {
+      moments = stays_on old mid new _ so_far c.sync.ensures.time c.sync.ensures.images (λ image left. g.met.D.Disk.counts_now c.write_at.new.self old.time image so_far.later left);
+      bytes = _;
+      told = c.sync.ensures.told ∙ wrote.written bytes told;
+    }

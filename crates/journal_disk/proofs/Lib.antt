@@ -8,3 +8,4 @@ pub mod CutShort
 pub mod Images
 pub mod Writes
 pub mod Held
+pub mod Settling

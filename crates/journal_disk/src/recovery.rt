@@ -2,6 +2,7 @@
 ghost use Rattle.std.specs.Prelude.{◌≡◌, ◌≤◌, ◌<◌, IfOk};
 ghost use Rattle.plan_schema.specs.Outside.{ReadCause};
 ghost use Rattle.journal_disk.specs.Disks.{Looked, Gave};
+ghost use Rattle.journal_disk.specs.Images.{IsSettled};
 ghost use Rattle.journal_disk.specs.Recovery.{IsRecovered, IsReadWhole};
 
 use crate::blocks::read_store;
@@ -18,7 +19,11 @@ const PIECE: usize = 16384;
 
 /// Reads the store of a disk: the entries before the closed gate, whatever stands behind it. Nothing is written.
 pub fn recover<D: Disk>(alloc: Global, disk: &mut D) -> Result<Recovered, StoreFault>
-    ensures { IsRecovered (D.moment disk.old) (D.moment disk.new) result }
+    ensures recovered { IsRecovered (D.moment disk.old) (D.moment disk.new) result }
+
+    // A store can go on with them.
+    ensures settled { IfOk result
+        (λ found. IsSettled (D.moment disk.new) found.journal.entries found.end) }
 {
     disk.sync()?;
     let bytes = read_whole(alloc, disk)?;

@@ -4,7 +4,7 @@ use Rattle.std.specs.Prelude.{IfOk}
 use Rattle.plan_schema.specs.declared.limits.TheConstants.{BYTE_LIMIT}
 use Rattle.journal_disk.specs.Disks.{Moment, Looked, IsOnDisk}
 use Rattle.journal_disk.specs.Stores.{StandsFor}
-use Rattle.journal_disk.specs.Images.{end_behind, IsImageOf, IsSettled}
+use Rattle.journal_disk.specs.Images.{IsImageOf, IsSettled}
 use Rattle.journal_disk.specs.Recovery.{TellsStore}
 use Rattle.journal_disk.specs.declared.fault.StoreFault.{StoreFault}
 use Rattle.journal_disk.specs.declared.recovered.Recovered.{Recovered}

@@ -5,5 +5,7 @@ pub mod Stored
 pub mod Recovery
 pub mod Memory
 pub mod Synced
+pub mod DiskRows
+pub mod Shelved
 pub mod Laws
 pub use Rattle.plan_schema.specs.Outside

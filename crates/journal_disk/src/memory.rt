@@ -60,6 +60,23 @@ impl MemoryDisk {
         }
     }
 
+    /// The same disk, with its count of faults at nought.
+    pub(crate) fn begin_count(self) -> MemoryDisk
+        ensures bytes { result.bytes ≡ self.bytes }
+        ensures faults { result.faults ≡ 0 }
+    {
+        let mut disk = self;
+        disk.faults = 0;
+        disk
+    }
+
+    /// How many calls failed since.
+    pub(crate) fn faults(&self) -> u64
+        ensures { result ≡ self.now.faults }
+    {
+        self.faults
+    }
+
     // Whether this call fails.
     fn is_failing(&mut self) -> bool
         ensures bytes { self.new.bytes ≡ self.old.bytes }

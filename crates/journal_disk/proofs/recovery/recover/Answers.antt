@@ -1,5 +1,4 @@
-use Rattle.std.proofs.Common.{◌∙◌, ◌≤◌, length, subst, sym}
-use Rattle.plan_schema.specs.declared.limits.TheConstants.{BYTE_LIMIT}
+use Rattle.std.proofs.Common.{◌∙◌}
 use Rattle.journal_disk.proofs.Settling.{recovered_settled}
 use Rattle.journal_disk.proofs.recovery.recover.Goals as goal
 

@@ -9,3 +9,4 @@ pub mod Images
 pub mod Writes
 pub mod Held
 pub mod Settling
+pub mod Sizes

@@ -18,7 +18,9 @@ pub use creation::create;
 pub use disk::{Disk, DiskShelf};
 pub use fault::StoreFault;
 pub use gates::block_of;
-pub use laws::{blocks_cut_short_count_for_nothing, stores_stand_for_one_history};
+pub use laws::{
+    blocks_cut_short_count_for_nothing, stores_have_room, stores_stand_for_one_history,
+};
 pub use memory::MemoryDisk;
 pub use memory_disks::{LentDisk, MemoryDisks};
 pub use recovered::Recovered;

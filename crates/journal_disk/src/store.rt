@@ -1,9 +1,9 @@
 //! A store on its disk, to which entries are added.
-ghost use Rattle.std.specs.Prelude.{◌≡◌, ◌≤◌, ◌+◌, ◌++◌, ◌∷◌, [], length, List, None, OnOk};
+ghost use Rattle.std.specs.Prelude.{◌≡◌, ◌≤◌, ◌+◌, ◌++◌, ◌∷◌, [], length, List, None, is_none, OnOk};
 ghost use Rattle.plan_schema.specs.declared.change.Entry.{Entry};
 ghost use Rattle.plan_schema.specs.declared.limits.TheConstants.{BYTE_LIMIT};
 ghost use Rattle.plan_schema.specs.Outside.{ReadCause};
-ghost use Rattle.journal_disk.specs.Images.{IsNext, IsImageAround, EachTold};
+ghost use Rattle.journal_disk.specs.Images.{IsNext, IsImageAround, EachTold, IsSettled};
 
 use crate::disk::Disk;
 use crate::gates::{open_at, write_behind};
@@ -28,7 +28,9 @@ impl<D: Disk> Store<D> {
 
     /// A store on a disk that has all its entries, with the place of the closed gate behind them.
     pub fn begin(disk: D, end: u64) -> Store<D>
-        ensures { result ≡ store_on disk end }
+        ensures store { result ≡ store_on disk end }
+        ensures holds { (entries : List Entry) → IsSettled (D.moment disk) entries end
+            → Holds D.moment result entries }
     {
         Store {
             disk,
@@ -89,6 +91,13 @@ impl<D: Disk> Store<D> {
         self.doubted = Some(self.end);
         self.end = self.behind;
         self.make_sure()
+    }
+
+    /// Whether the last entry's gate is known to be open on the disk.
+    pub fn is_sure(&self) -> bool
+        ensures { result ≡ is_none (doubt_of self.now) }
+    {
+        self.doubted.is_none()
     }
 
     // Opens the last entry's gate, where that is doubted.

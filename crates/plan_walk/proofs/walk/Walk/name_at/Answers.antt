@@ -1,7 +1,6 @@
 use Rattle.std.proofs.Common.{◌≡◌, ◌∙◌, ap, sym, length}
 use Rattle.std.specs.Prelude.{slice_get}
 use Rattle.walk_rules.specs.Walks.{names_of}
-use Rattle.plan_walk.specs.Places.{parts_of}
 use Rattle.plan_walk.specs.Nodes.{node_names, shown}
 use Rattle.plan_walk.specs.View.{View}
 use Rattle.plan_walk.proofs.Places.{names_place}

@@ -73,12 +73,12 @@ fn set_of_names(
 }
 
 /// The names of a set, in order.
-fn in_order(alloc: Global, mut found: BTreeSet<Name>) -> Result<Vec<Name>, AllocError>
-    ensures { IfOk result (λ names. names.items ≡ found.keys) }
+fn in_order(alloc: Global, found: &BTreeSet<Name>) -> Result<Vec<Name>, AllocError>
+    ensures { IfOk result (λ names. names.items ≡ found.now.keys) }
 {
-    let mut names = Vec::new(alloc);
-    while let Some(name) = found.pop_first() {
-        names.push(name)?;
+    let mut names = Vec::with_capacity(alloc, found.len())?;
+    for name in found.iter() {
+        names.push(*name)?;
     }
     Ok(names)
 }
@@ -92,7 +92,7 @@ fn marked_names(alloc: Global, names: &Numbering, seen: &[bool]) -> Result<Vec<N
         return Ok(found);
     }
     let set = set_of_names(alloc, names, seen)?;
-    let found = in_order(alloc, set)?;
+    let found = in_order(alloc, &set)?;
     Ok(found)
 }
 

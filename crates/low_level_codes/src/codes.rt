@@ -76,15 +76,13 @@ fn first_own(
 }
 
 /// Pairs in order, each turned round.
-fn turned(
-    alloc: Global,
-    mut found: BTreeSet<(usize, Name)>,
-) -> Result<Vec<(Name, usize)>, AllocError>
-    ensures { IfOk result (λ levels. levels.items ≡ map (λ pair. (pair.1, pair.0)) found.keys) }
+fn turned(alloc: Global, found: &BTreeSet<(usize, Name)>) -> Result<Vec<(Name, usize)>, AllocError>
+    ensures { IfOk result (λ levels. levels.items
+        ≡ map (λ pair. (pair.1, pair.0)) found.now.keys) }
 {
-    let mut levels = Vec::new(alloc);
-    while let Some((level, name)) = found.pop_first() {
-        levels.push((name, level))?;
+    let mut levels = Vec::with_capacity(alloc, found.len())?;
+    for pair in found.iter() {
+        levels.push((pair.1, pair.0))?;
     }
     Ok(levels)
 }
@@ -113,7 +111,7 @@ fn levels_in(
     let placed = place(alloc, ups, downs)?;
     let placed = placed.as_slice();
     if let Some(found) = with_levels(alloc, placed, places, names)? {
-        let levels = turned(alloc, found)?;
+        let levels = turned(alloc, &found)?;
         return Ok(levels);
     }
     let heights = place(alloc, downs, ups)?;

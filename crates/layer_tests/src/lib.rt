@@ -9,10 +9,10 @@ mod forests;
 #[cfg(test)]
 mod planned;
 #[cfg(test)]
+mod reclaimed;
+#[cfg(test)]
 mod runs;
 #[cfg(test)]
 mod stepped;
 #[cfg(test)]
 mod walks;
-#[cfg(test)]
-mod worn;

@@ -6,6 +6,3 @@ mod give_back;
 
 pub use collect::live;
 pub use give_back::reclaim;
-
-#[cfg(test)]
-mod tests;

@@ -1,12 +1,14 @@
-//! Live ids, and what is given back, where memory is ample.
-use super::*;
-use plan_schema::{CellName, Contents, Day, Key, Record};
+//! Live ids, and what is given back.
+
+use crate::fixtures::base;
+use plan_schema::CellName;
 use record_versions::VersionId;
 use scenario_merge::Forest;
 use shared_memo::{Memo, Twin};
 use std::alloc::{AllocError, Global};
 use std::sync::Arc;
 use std::test::Fail;
+use version_reclaim::{live, reclaim};
 
 // A key of a memo that stands on one version.
 #[derive(PartialEq, Eq, Hash, Drop)]
@@ -29,21 +31,11 @@ fn horizon_of(point: u64) -> OnVersion {
     }
 }
 
-// The root with a horizon alone.
-fn begun(alloc: Global) -> Result<Forest, AllocError> {
-    let Ok(start) = Day::read(b"2025-03-03") else {
-        return Err(AllocError);
-    };
-    let _number = start.number();
-    start.holds();
-    let mut contents = Contents::new(alloc);
-    contents.put(Key::Plan, Record::Plan { start, days: 1 })?;
-    Forest::begin(alloc, &contents)
-}
-
+// The root has a horizon alone, and of three versions of it the first is in use.
 #[test]
-fn keeps_what_is_live(rt: HostRuntime) -> Result<(), Fail> {
-    let mut forest = begun(rt.alloc())?;
+fn what_is_live_is_kept(rt: HostRuntime) -> Result<(), Fail> {
+    let contents = base(rt.alloc(), b"PLAN,2025-03-03,1\n")?;
+    let mut forest = Forest::begin(rt.alloc(), &contents)?;
     let live = live(rt.alloc(), &forest)?;
     let mut memo = Memo::new(rt.alloc(), 4)?;
     for point in 0..3 {
